@@ -1,2 +1,6 @@
 pub mod Ids
 pub mod Refusals
+pub mod Quadlets
+pub mod Requests
+pub mod Blocks
+pub mod Links
