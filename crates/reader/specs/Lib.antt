@@ -4,3 +4,4 @@ pub mod Quadlets
 pub mod Requests
 pub mod Blocks
 pub mod Links
+pub mod Texts
