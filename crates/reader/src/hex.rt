@@ -20,7 +20,11 @@ fn digit(value: u16) -> char
     ensures { λ r. ⌜ encode r ≡ glyph true value ∷ [] ⌝ }
 {
     let code = (value % 16) as u8;
-    if code < 10 { char::from(b'0' + code) } else { char::from(b'A' - 10 + code) }
+    if code < 10 {
+        char::from(b'0' + code)
+    } else {
+        char::from(b'A' - 10 + code)
+    }
 }
 
 pub impl fmt::Display for Hex as HexDisplay {

@@ -4,4 +4,5 @@ pub mod ids;
 pub mod link;
 pub mod refusal;
 pub mod request;
+pub mod sentence;
 pub mod status;
