@@ -3,11 +3,11 @@ ghost use mathlib.Core.Path.{_≡_};
 ghost use Rattle.reader.specs.Ids.{none-id, local, broadcast, global, none-eui};
 
 /// Where a node stands: FFC0h to FFFEh on the local bus, FFFFh nowhere, and below that on other buses.
-#[derive(Clone, Copy, PartialEq, Eq, Debug)]
+#[derive(Clone, Copy, PartialEq, Eq)]
 pub struct NodeId(pub u16);
 
 /// Who a node is, wherever it stands; all ones is nobody.
-#[derive(Clone, Copy, PartialEq, Eq, Debug)]
+#[derive(Clone, Copy, PartialEq, Eq)]
 pub struct Eui64(pub u64);
 
 impl NodeId {

@@ -2,12 +2,11 @@
 ghost use mathlib.Core.Path.{_≡_};
 ghost use Rattle.reader.specs.Refusals.{number, value, layer};
 use crate::ids::NodeId;
-use crate::ids::NodeIdDebug;
 use crate::ids::NodeIdPartialEq;
 
 /// Every cause for which a call is turned away. Up to 255 they are SBP-3's status codes,
 /// from 32 on they are our own; a case holds what its value cannot be told without.
-#[derive(Clone, Copy, PartialEq, Eq, Debug)]
+#[derive(Clone, Copy, PartialEq, Eq)]
 pub enum Refusal {
     /// rq_fmt is not 0, or the function is unknown.
     RequestTypeNotSupported,
@@ -44,7 +43,7 @@ pub enum Refusal {
 }
 
 /// The part of the agent that refuses.
-#[derive(Clone, Copy, PartialEq, Eq, Debug)]
+#[derive(Clone, Copy, PartialEq, Eq)]
 pub enum Layer {
     Areas,
     Request,

@@ -5,12 +5,11 @@ ghost use lib.ListN.{length};
 ghost use Rattle.reader.specs.Quadlets.{big2, big4, big8, bit};
 ghost use Rattle.reader.specs.Requests.{function-in, function-number, request-read, hold-asked, Hold-law};
 use crate::ids::Eui64;
-use crate::ids::Eui64Debug;
 use crate::ids::Eui64PartialEq;
 use crate::refusal::Refusal;
 
 /// What a request asks for.
-#[derive(Clone, Copy, PartialEq, Eq, Debug)]
+#[derive(Clone, Copy, PartialEq, Eq)]
 pub enum Function {
     Login,
     QueryLogins,
@@ -22,7 +21,7 @@ pub enum Function {
 }
 
 /// The fields of a request. Some have two names, since two functions use the same bits.
-#[derive(Clone, Copy, PartialEq, Eq, Debug)]
+#[derive(Clone, Copy, PartialEq, Eq)]
 pub struct Request {
     pub eui_64: Eui64,
     pub notify: bool,

@@ -2,7 +2,7 @@
 use native.Mathlib.Omega.{arith}
 use borrow.Author.Needs.{needs}
 use Rattle.std.proofs.shelf.Text.{encode-ascii}
-use Rattle.reader.proofs.hex.digit.Needs as need
+use Rattle.reader.proofs.text.digit.Needs as need
 
 pub returns-then-code-lt10 : need.returns-then-code-lt10
 returns-then-code-lt10 c = let one = encode-ascii (c .from .result) (omega (arith, c .from .ensures)) in search needs
