@@ -1,0 +1,2 @@
+// The journal: what happened to a cabinet, one record after another, in bytes.
+mod numbers;
