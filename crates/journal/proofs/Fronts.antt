@@ -4,14 +4,16 @@ use mathlib.Core.List.{List, [], _∷_}
 use Prim.Native.Nat.{ℕ, _+_, _-_, _*_, _^_, _<_, _≤_}
 use native.Mathlib.Omega.{arith}
 use lib.ListN.{length, getD, take, drop}
-use lib.Dec.{ltb, leb}
+use lib.Dec.{ltb, leb, eqb}
+use mathlib.Core.Bool.{cond}
 use lib.Pow.{pow-mono, pow-add}
 use Rattle.std.proofs.shelf.Lists.{nil-from-length}
 use Rattle.std.proofs.shelf.Parts.{first-rest}
-use Rattle.std.proofs.shelf.Tests.{lt-ltb, le-ltb, le-leb, lt-leb, cond-true, cond-false}
+use Rattle.std.proofs.shelf.Tests.{lt-ltb, le-ltb, le-leb, lt-leb, ne-eqb, cond-true, cond-false}
 use Rattle.std.specs.declared.option.Option.{Option}
 use Rattle.std.specs.declared.option.Option.the-variants.{Some, None}
-use Rattle.journal.specs.Reading.{number-at, above, found}
+use Rattle.journal.specs.Entries.{Entry}
+use Rattle.journal.specs.Reading.{number-at, above, found, entry-at}
 
 pub at-none : (bits : ℕ) (bs : List ℕ) → length bs < 1 → number-at bits bs ≡ None
 unfolding number-at
@@ -45,3 +47,28 @@ module _ (bits : ℕ) (b : ℕ) (bs : List ℕ) where
 -- a list that is not empty, by its first byte and the rest as a slice pattern gives it
 pub front-of : (bs : List ℕ) → 1 ≤ length bs → bs ≡ getD bs 0 0 ∷ take (length bs - 1) (drop 1 bs)
 front-of bs h = first-rest bs 0 h
+
+pub kind-front : (k : ℕ) (bs : List ℕ) → 1 ≤ length bs → getD bs 0 0 ≡ k → bs ≡ k ∷ take (length bs - 1) (drop 1 bs)
+kind-front k bs h e = front-of bs h ∙ ap (λ (b : ℕ). b ∷ take (length bs - 1) (drop 1 bs)) e
+
+pub entry-none : (bs : List ℕ) → length bs < 1 → entry-at bs ≡ None
+unfolding entry-at
+entry-none bs h = let z : length bs ≡ 0 = omega arith in ap entry-at (nil-from-length bs z)
+
+-- no kind but 1 to 9
+pub kind-unknown : (bs : List ℕ) → 1 ≤ length bs → ((j : ℕ) → 1 ≤ j → j ≤ 9 → getD bs 0 0 ≡ j → ⊥) → entry-at bs ≡ None
+unfolding entry-at
+kind-unknown bs h other =
+    let k : ℕ = getD bs 0 0 in
+    let past : (j : ℕ) (x y : Option (Entry × List ℕ)) → 1 ≤ j → j ≤ 9 → cond (eqb k j) x y ≡ y =
+        λ j x y a b. cond-false (eqb k j) x y (ne-eqb k j (other j a b)) in
+    ap entry-at (front-of bs h)
+    ∙ past 1 _ _ (omega arith) (omega arith)
+    ∙ past 2 _ _ (omega arith) (omega arith)
+    ∙ past 3 _ _ (omega arith) (omega arith)
+    ∙ past 4 _ _ (omega arith) (omega arith)
+    ∙ past 5 _ _ (omega arith) (omega arith)
+    ∙ past 6 _ _ (omega arith) (omega arith)
+    ∙ past 7 _ _ (omega arith) (omega arith)
+    ∙ past 8 _ _ (omega arith) (omega arith)
+    ∙ past 9 _ _ (omega arith) (omega arith)

@@ -1,2 +1,5 @@
+pub mod Areas
 pub mod Numbers
+pub mod Entries
+pub mod Journals
 pub mod Reading

@@ -4,6 +4,11 @@ use mathlib.Core.List.{List, [], _∷_}
 use mathlib.Core.Bool.{cond}
 use lib.Dec.{ltb, leb, eqb}
 use denote.Ref.{RefT, now}
+use lib.ListN.{length, take, drop}
+use Rattle.reader.specs.declared.ids.NodeId.{NodeId}
+use Rattle.reader.specs.declared.ids.Eui64.{Eui64}
+use Rattle.journal.specs.Entries.{Entry, request, bus-reset, net-update, gap, tick, access-change, bus-note, pair-note, stop-note, entry}
+use Rattle.journal.specs.declared.record.Record.{Record}
 use Rattle.std.specs.Options.{mapped}
 use Rattle.std.specs.declared.option.Option.{Option}
 use Rattle.std.specs.declared.option.Option.the-variants.{Some, None}
@@ -28,3 +33,60 @@ number-at bits (b ∷ bs) =
 -- what the code hands over, without where its bytes lie
 abbrev pub number-seen : Option (ℕ × RefT (List ℕ)) → Option (ℕ × List ℕ)
 number-seen o = mapped (λ p. (p .0, now (p .1))) o
+
+-- go on behind a number, if there is one
+abbrev pub after : {T : Type 0} → Option (ℕ × List ℕ) → (ℕ → List ℕ → Option T) → Option T
+after None f = None
+after (Some p) f = f (p .0) (p .1)
+
+-- an entry and the bytes after it
+abbrev pub met : Entry → List ℕ → Option (Entry × List ℕ)
+met e rest = Some (e, rest)
+
+abbrev pub id : ℕ → NodeId
+id n = record { 0 = n }
+
+abbrev pub eui : ℕ → Eui64
+eui n = record { 0 = n }
+
+-- behind the kind byte
+abbrev pub orb-at : ℕ → ℕ → List ℕ → Option (Entry × List ℕ)
+orb-at source address bs = cond (ltb (length bs) 32) None (met (request (id source) address (take 32 bs)) (drop 32 bs))
+
+abbrev pub request-at : List ℕ → Option (Entry × List ℕ)
+request-at bs = after (number-at 16 bs) (λ source rest. after (number-at 64 rest) (orb-at source))
+
+abbrev pub bus-note-at : List ℕ → Option (Entry × List ℕ)
+bus-note-at bs = after (number-at 16 bs) (λ node rest. after (number-at 64 rest) (λ e. met (bus-note (id node) (eui e))))
+
+abbrev pub pair-note-at : List ℕ → Option (Entry × List ℕ)
+pair-note-at bs =
+    after (number-at 64 bs) (λ e rest.
+        after (number-at 16 rest) (λ unit rest. after (number-at 1 rest) (λ m. met (pair-note (eui e) unit (eqb m 1)))))
+
+abbrev pub stop-note-at : List ℕ → Option (Entry × List ℕ)
+stop-note-at bs = after (number-at 64 bs) (λ e rest. after (number-at 1 rest) (λ m. met (stop-note (eui e) (eqb m 1))))
+
+-- the entry at the front, and the rest
+unfoldable pub entry-at : List ℕ → Option (Entry × List ℕ)
+entry-at [] = None
+entry-at (k ∷ bs) =
+    cond (eqb k 1) (request-at bs) (
+        cond (eqb k 2) (met bus-reset bs) (
+            cond (eqb k 3) (met net-update bs) (
+                cond (eqb k 4) (met gap bs) (
+                    cond (eqb k 5) (met tick bs) (
+                        cond (eqb k 6) (met access-change bs) (
+                            cond (eqb k 7) (bus-note-at bs) (
+                                cond (eqb k 8) (pair-note-at bs) (cond (eqb k 9) (stop-note-at bs) None)
+                            )
+                        )
+                    )
+                )
+            )
+        )
+    )
+
+-- what the code hands over, without where its bytes lie
+abbrev pub entry-seen : Option (Record × RefT (List ℕ)) → Option (Entry × List ℕ)
+entry-seen o = mapped (λ p. (entry (p .0), now (p .1))) o

@@ -28,3 +28,11 @@ pub(crate) fn read_number(bytes: &[u8], bits: u32) -> Option<(u64, &[u8])>
     }
     Some((high * 128 + u64::from(low - 128), after))
 }
+
+// The same of 16 bits.
+pub(crate) fn read_half(bytes: &[u8]) -> Option<(u16, &[u8])>
+    ensures { λ r. ⌜ number-seen r ≡ number-at 16 (now (bytes .entry)) ⌝ }
+{
+    let (number, rest) = read_number(bytes, 16)?;
+    Some((number as u16, rest))
+}
