@@ -1,9 +1,9 @@
 // Writing a journal into a lent area: all of it, or nothing.
 ghost use mathlib.Core.Path.{_≡_};
-ghost use mathlib.Core.List.{[], _∷_};
+ghost use mathlib.Core.List.{[], _∷_, _++_};
 ghost use Prim.Native.Nat.{_+_, _≤_};
 ghost use lib.ListN.{length};
-ghost use Rattle.journal.specs.Entries.{entry, entry-code, mark};
+ghost use Rattle.journal.specs.Entries.{entry, entry-code};
 ghost use Rattle.journal.specs.Numbers.{code};
 ghost use Rattle.journal.specs.Areas.{Wrote};
 use crate::record::Record;
@@ -25,4 +25,56 @@ fn write_number(n: u64, area: &mut [u8], at: usize) -> usize
     }
     let at = write_byte((n % 128 + 128) as u8, area, at);
     write_number(n / 128, area, at)
+}
+
+fn write_bytes(bytes: &[u8; 32], area: &mut [u8], at: usize) -> usize
+    requires { ⌜ at + length (now bytes) ≤ length (now area) ⌝ }
+    ensures { λ r. ⌜ Wrote (now (area .entry)) (now (area .exit)) at r (now (bytes .entry)) ⌝ }
+{
+    area[at..at + 32].copy_from_slice(bytes);
+    at + 32
+}
+
+// A kind byte and two numbers.
+fn write_two(kind: u8, first: u64, second: u64, area: &mut [u8], at: usize) -> usize
+    requires { ⌜ at + length (kind ∷ (code first ++ code second)) ≤ length (now area) ⌝ }
+    ensures { λ r. ⌜ Wrote (now (area .entry)) (now (area .exit)) at r (kind ∷ (code first ++ code second)) ⌝ }
+{
+    let at = write_byte(kind, area, at);
+    let at = write_number(first, area, at);
+    write_number(second, area, at)
+}
+
+fn write_request(source: u64, orb_address: u64, orb: &[u8; 32], area: &mut [u8], at: usize) -> usize
+    requires { ⌜ at + length (1 ∷ (code source ++ (code «orb_address» ++ now orb))) ≤ length (now area) ⌝ }
+    ensures { λ r. ⌜ Wrote (now (area .entry)) (now (area .exit)) at r (1 ∷ (code source ++ (code «orb_address» ++ now (orb .entry)))) ⌝ }
+{
+    let at = write_two(1, source, orb_address, area, at);
+    write_bytes(orb, area, at)
+}
+
+fn write_pair_note(eui_64: u64, unit: u64, mark: u64, area: &mut [u8], at: usize) -> usize
+    requires { ⌜ at + length (8 ∷ (code «eui_64» ++ (code unit ++ code mark))) ≤ length (now area) ⌝ }
+    ensures { λ r. ⌜ Wrote (now (area .entry)) (now (area .exit)) at r (8 ∷ (code «eui_64» ++ (code unit ++ code mark))) ⌝ }
+{
+    let at = write_two(8, eui_64, unit, area, at);
+    write_number(mark, area, at)
+}
+
+// A record whose bytes fit behind the place.
+fn write_record(record: Record<'_>, area: &mut [u8], at: usize) -> usize
+    requires { ⌜ at + length (entry-code (entry «record»)) ≤ length (now area) ⌝ }
+    ensures { λ r. ⌜ Wrote (now (area .entry)) (now (area .exit)) at r (entry-code (entry («record» .entry))) ⌝ }
+{
+    match record {
+        Record::Request { source, orb_address, orb } => write_request(u64::from(source.0), orb_address, orb, area, at),
+        Record::BusReset => write_byte(2, area, at),
+        Record::NetUpdate => write_byte(3, area, at),
+        Record::Gap => write_byte(4, area, at),
+        Record::Tick => write_byte(5, area, at),
+        Record::AccessChange => write_byte(6, area, at),
+        Record::BusNote { node, eui_64 } => write_two(7, u64::from(node.0), eui_64.0, area, at),
+        Record::PairNote { eui_64, unit, admitted } => write_pair_note(eui_64.0, u64::from(unit), u64::from(admitted), area, at),
+        Record::StopNote { eui_64, stopped } => write_two(9, eui_64.0, u64::from(stopped), area, at),
+    }
 }
