@@ -1,12 +1,50 @@
 // Writing a journal into a lent area: all of it, or nothing.
 ghost use mathlib.Core.Path.{_≡_};
 ghost use mathlib.Core.List.{[], _∷_, _++_};
-ghost use Prim.Native.Nat.{_+_, _≤_};
+ghost use Prim.Native.Nat.{_+_, _^_, _<_, _≤_};
 ghost use lib.ListN.{length};
-ghost use Rattle.journal.specs.Entries.{entry, entry-code};
+ghost use Rattle.journal.specs.Entries.{entry, entry-code, Within};
 ghost use Rattle.journal.specs.Numbers.{code};
 ghost use Rattle.journal.specs.Areas.{Wrote};
 use crate::record::Record;
+
+fn number_len(n: u64) -> usize
+    ensures value { λ r. ⌜ r ≡ length (code n) ⌝ }
+    ensures bound { λ r. ⌜ r ≤ 10 ⌝ }
+    ensures fits { λ _. ⌜ n < 2 ^ 64 ⌝ }
+{
+    if n < 128 { 1 } else { 1 + number_len(n / 128) }
+}
+
+fn half_len(n: u16) -> usize
+    ensures value { λ r. ⌜ r ≡ length (code n) ⌝ }
+    ensures bound { λ r. ⌜ r ≤ 10 ⌝ }
+    ensures fits { λ _. ⌜ n < 2 ^ 16 ⌝ }
+{
+    number_len(u64::from(n))
+}
+
+fn orb_len(orb: &[u8; 32]) -> usize
+    ensures value { λ r. ⌜ r ≡ length (now (orb .entry)) ⌝ }
+    ensures whole { λ r. ⌜ r ≡ 32 ⌝ }
+{
+    orb.len()
+}
+
+/// How many bytes a record takes.
+pub fn record_len(record: Record<'_>) -> usize
+    ensures value { λ r. ⌜ r ≡ length (entry-code (entry («record» .entry))) ⌝ }
+    ensures bound { λ r. ⌜ r ≤ 53 ⌝ }
+    ensures within { λ _. ⌜ Within (entry («record» .entry)) ⌝ }
+{
+    match record {
+        Record::Request { source, orb_address, orb } => 1 + half_len(source.0) + number_len(orb_address) + orb_len(orb),
+        Record::BusNote { node, eui_64 } => 1 + half_len(node.0) + number_len(eui_64.0),
+        Record::PairNote { eui_64, unit, .. } => 2 + number_len(eui_64.0) + half_len(unit),
+        Record::StopNote { eui_64, .. } => 2 + number_len(eui_64.0),
+        Record::BusReset | Record::NetUpdate | Record::Gap | Record::Tick | Record::AccessChange => 1,
+    }
+}
 
 fn write_byte(byte: u8, area: &mut [u8], at: usize) -> usize
     requires { ⌜ at + 1 ≤ length (now area) ⌝ }
