@@ -33,8 +33,8 @@ code-more (suc k) h =
 pub code-length : (n : ℕ) → 1 ≤ length (code n)
 code-length n =
     elim (cases-lt n 128) [
-        inl h ↦ let q = ap length (code-last n h) in omega arith
-        | inr h ↦ let q = ap length (code-more n h) in omega arith
+      | inl h ↦ let q = ap length (code-last n h) in omega arith
+      | inr h ↦ let q = ap length (code-more n h) in omega arith
     ]
 
 -- k + 1 groups hold 7 * (k + 1) bits
@@ -42,14 +42,18 @@ code-within : (k n : ℕ) → n < 128 * 128 ^ k → length (code n) ≤ k + 1
 code-within zero n h = let q = ap length (code-last n (omega arith)) in omega arith
 code-within (suc k) n h =
     elim (cases-lt n 128) [
-        inl l ↦ let q = ap length (code-last n l) in omega arith
-        | inr l ↦
-            let q = ap length (code-more n l) in
-            let p : 128 ^ suc k ≡ 128 ^ k * 128 = pow-suc 128 k in
-            let i = code-within k (n / 128) (omega arith) in
-            omega arith
+      | inl l ↦ let q = ap length (code-last n l) in omega arith
+      | inr l ↦
+          let q = ap length (code-more n l) in
+          let p : 128 ^ suc k ≡ 128 ^ k * 128 = pow-suc 128 k in
+          let i = code-within k (n / 128) (omega arith) in
+          omega arith
     ]
 
 -- ten groups hold 64 bits
 pub code-short : (n : ℕ) → n < 2 ^ 64 → length (code n) ≤ 10
 code-short n h = code-within 9 n (omega arith)
+
+-- and three hold 16
+pub code-half : (n : ℕ) → n < 2 ^ 16 → length (code n) ≤ 3
+code-half n h = code-within 2 n (omega arith)

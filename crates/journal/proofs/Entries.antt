@@ -39,8 +39,8 @@ pub entry-complete : (e : Entry) (rest : List ℕ) → Within e → entry-at (en
 unfolding entry-at
 entry-complete (request source address orb) rest w =
     rw (append-assoc (code (source .0)) (code address ++ orb) rest, append-assoc (code address) orb rest) (
-        after-code 16 (source .0) (code address ++ (orb ++ rest)) (λ s r. after (number-at 64 r) (orb-at s)) (w .0)
-        ∙ after-code 64 address (orb ++ rest) (orb-at (source .0)) (w .1) ∙ orb-found (source .0) address orb rest (w .2)
+    after-code 16 (source .0) (code address ++ (orb ++ rest)) (λ s r. after (number-at 64 r) (orb-at s)) (w .0)
+    ∙ after-code 64 address (orb ++ rest) (orb-at (source .0)) (w .1) ∙ orb-found (source .0) address orb rest (w .2)
     )
 entry-complete bus-reset rest w = refl
 entry-complete net-update rest w = refl
@@ -49,21 +49,21 @@ entry-complete tick rest w = refl
 entry-complete access-change rest w = refl
 entry-complete (bus-note node e) rest w =
     rw (append-assoc (code (node .0)) (code (e .0)) rest) (
-        after-code 16 (node .0) (code (e .0) ++ rest) (λ n r. after (number-at 64 r) (λ x. met (bus-note (id n) (eui x)))) (w .0)
-        ∙ after-code 64 (e .0) rest (λ x. met (bus-note node (eui x))) (w .1)
+    after-code 16 (node .0) (code (e .0) ++ rest) (λ n r. after (number-at 64 r) (λ x. met (bus-note (id n) (eui x)))) (w .0)
+    ∙ after-code 64 (e .0) rest (λ x. met (bus-note node (eui x))) (w .1)
     )
 entry-complete (pair-note e unit b) rest w =
     rw (append-assoc (code (e .0)) (code unit ++ code (mark b)) rest, append-assoc (code unit) (code (mark b)) rest) (
-        after-code 64 (e .0) (code unit ++ (code (mark b) ++ rest)) (λ x r. after (number-at 16 r) (λ u r. after (number-at 1 r) (λ m. met (pair-note (eui x) u (eqb m 1))))) (w .0)
-        ∙ after-code 16 unit (code (mark b) ++ rest) (λ u r. after (number-at 1 r) (λ m. met (pair-note e u (eqb m 1)))) (w .1)
-        ∙ after-code 1 (mark b) rest (λ m. met (pair-note e unit (eqb m 1))) (mark-small b)
-        ∙ ap (λ (m : Bool). met (pair-note e unit m) rest) (mark-one b)
+    after-code 64 (e .0) (code unit ++ (code (mark b) ++ rest)) (λ x r. after (number-at 16 r) (λ u r. after (number-at 1 r) (λ m. met (pair-note (eui x) u (eqb m 1))))) (w .0)
+    ∙ after-code 16 unit (code (mark b) ++ rest) (λ u r. after (number-at 1 r) (λ m. met (pair-note e u (eqb m 1)))) (w .1)
+    ∙ after-code 1 (mark b) rest (λ m. met (pair-note e unit (eqb m 1))) (mark-small b)
+    ∙ ap (λ (m : Bool). met (pair-note e unit m) rest) (mark-one b)
     )
 entry-complete (stop-note e b) rest w =
     rw (append-assoc (code (e .0)) (code (mark b)) rest) (
-        after-code 64 (e .0) (code (mark b) ++ rest) (λ x r. after (number-at 1 r) (λ m. met (stop-note (eui x) (eqb m 1)))) w
-        ∙ after-code 1 (mark b) rest (λ m. met (stop-note e (eqb m 1))) (mark-small b)
-        ∙ ap (λ (m : Bool). met (stop-note e m) rest) (mark-one b)
+    after-code 64 (e .0) (code (mark b) ++ rest) (λ x r. after (number-at 1 r) (λ m. met (stop-note (eui x) (eqb m 1)))) w
+    ∙ after-code 1 (mark b) rest (λ m. met (stop-note e (eqb m 1))) (mark-small b)
+    ∙ ap (λ (m : Bool). met (stop-note e m) rest) (mark-one b)
     )
 
 bytes-after : (bs xs rest : List ℕ) → bs ≡ xs ++ rest → Bytes bs → Bytes rest
@@ -99,8 +99,8 @@ made bs d e r s q f w =
 mark-back : (m : ℕ) → m < 2 ^ 1 → m ≡ mark (eqb m 1)
 mark-back m h =
     elim (cases-eq m 1) [
-        inl e ↦ e ∙ sym (cond-true (eqb m 1) 1 0 (eq-eqb m 1 e))
-        | inr n ↦ let z : m ≡ 0 = omega arith in z ∙ sym (cond-false (eqb m 1) 1 0 (ne-eqb m 1 n))
+      | inl e ↦ e ∙ sym (cond-true (eqb m 1) 1 0 (eq-eqb m 1 e))
+      | inr n ↦ let z : m ≡ 0 = omega arith in z ∙ sym (cond-false (eqb m 1) 1 0 (ne-eqb m 1 n))
     ]
 
 -- a number below 2 is the mark that it is read as
@@ -114,25 +114,25 @@ module _ (bs : List ℕ) (e : Entry) (rest : List ℕ) (h : Bytes bs) where
       let s = behind 16 bs (λ s r. after (number-at 64 r) (orb-at s)) x h q in
       let a = behind 64 (s .rest) (orb-at (s .number)) x (s .bytes) (s .on) in
       elim (cases-lt (length (a .rest)) 32) [
-          inl l ↦ absurd (
-              let c = cond-true (ltb (length (a .rest)) 32) None (met (request (id (s .number)) (a .number) (take 32 (a .rest))) (drop 32 (a .rest))) (lt-ltb (length (a .rest)) 32 l) in
-              let d : None ≡ Some x = sym c ∙ a .on in
-              let z : _≡_ {A = ℕ} 0 1 = cc in
-              omega arith
-          )
-          | inr l ↦
-              let c = cond-false (ltb (length (a .rest)) 32) None (met (request (id (s .number)) (a .number) (take 32 (a .rest))) (drop 32 (a .rest))) (le-ltb (length (a .rest)) 32 l) in
-              made (1 ∷ bs) (request (id (s .number)) (a .number) (take 32 (a .rest))) e (drop 32 (a .rest)) rest (sym c ∙ a .on)
-              (ap (λ (z : List ℕ). 1 ∷ z) (
-                  s .there .front
-                  ∙ ap (λ (z : List ℕ). code (s .number) ++ z) (
-                      a .there .front
-                      ∙ ap (λ (z : List ℕ). code (a .number) ++ z) (sym (take-append-drop 32 (a .rest)))
-                      ∙ sym (append-assoc (code (a .number)) (take 32 (a .rest)) (drop 32 (a .rest)))
-                  )
-                  ∙ sym (append-assoc (code (s .number)) (code (a .number) ++ take 32 (a .rest)) (drop 32 (a .rest)))
-              ))
-              (s .there .fits, a .there .fits, length-take-le 32 (a .rest) l)
+        | inl l ↦ absurd (
+            let c = cond-true (ltb (length (a .rest)) 32) None (met (request (id (s .number)) (a .number) (take 32 (a .rest))) (drop 32 (a .rest))) (lt-ltb (length (a .rest)) 32 l) in
+            let d : None ≡ Some x = sym c ∙ a .on in
+            let z : _≡_ {A = ℕ} 0 1 = cc in
+            omega arith
+            )
+        | inr l ↦
+            let c = cond-false (ltb (length (a .rest)) 32) None (met (request (id (s .number)) (a .number) (take 32 (a .rest))) (drop 32 (a .rest))) (le-ltb (length (a .rest)) 32 l) in
+            made (1 ∷ bs) (request (id (s .number)) (a .number) (take 32 (a .rest))) e (drop 32 (a .rest)) rest (sym c ∙ a .on)
+            (ap (λ (z : List ℕ). 1 ∷ z) (
+            s .there .front
+            ∙ ap (λ (z : List ℕ). code (s .number) ++ z) (
+            a .there .front
+            ∙ ap (λ (z : List ℕ). code (a .number) ++ z) (sym (take-append-drop 32 (a .rest)))
+            ∙ sym (append-assoc (code (a .number)) (take 32 (a .rest)) (drop 32 (a .rest)))
+            )
+            ∙ sym (append-assoc (code (s .number)) (code (a .number) ++ take 32 (a .rest)) (drop 32 (a .rest)))
+            ))
+            (s .there .fits, a .there .fits, length-take-le 32 (a .rest) l)
       ]
 
   bus-note-sound : bus-note-at bs ≡ met e rest → Entry-at (7 ∷ bs) e rest
@@ -142,8 +142,8 @@ module _ (bs : List ℕ) (e : Entry) (rest : List ℕ) (h : Bytes bs) where
       let y = behind 64 (n .rest) (λ y. met (bus-note (id (n .number)) (eui y))) x (n .bytes) (n .on) in
       made (7 ∷ bs) (bus-note (id (n .number)) (eui (y .number))) e (y .rest) rest (y .on)
       (ap (λ (z : List ℕ). 7 ∷ z) (
-          n .there .front ∙ ap (λ (z : List ℕ). code (n .number) ++ z) (y .there .front)
-          ∙ sym (append-assoc (code (n .number)) (code (y .number)) (y .rest))
+      n .there .front ∙ ap (λ (z : List ℕ). code (n .number) ++ z) (y .there .front)
+      ∙ sym (append-assoc (code (n .number)) (code (y .number)) (y .rest))
       ))
       (n .there .fits, y .there .fits)
 
@@ -155,12 +155,12 @@ module _ (bs : List ℕ) (e : Entry) (rest : List ℕ) (h : Bytes bs) where
       let m = behind 1 (u .rest) (λ m. met (pair-note (eui (y .number)) (u .number) (eqb m 1))) x (u .bytes) (u .on) in
       made (8 ∷ bs) (pair-note (eui (y .number)) (u .number) (eqb (m .number) 1)) e (m .rest) rest (m .on)
       (ap (λ (z : List ℕ). 8 ∷ z) (
-          y .there .front
-          ∙ ap (λ (z : List ℕ). code (y .number) ++ z) (
-              u .there .front ∙ ap (λ (z : List ℕ). code (u .number) ++ z) (marked m)
-              ∙ sym (append-assoc (code (u .number)) (code (mark (eqb (m .number) 1))) (m .rest))
-          )
-          ∙ sym (append-assoc (code (y .number)) (code (u .number) ++ code (mark (eqb (m .number) 1))) (m .rest))
+      y .there .front
+      ∙ ap (λ (z : List ℕ). code (y .number) ++ z) (
+      u .there .front ∙ ap (λ (z : List ℕ). code (u .number) ++ z) (marked m)
+      ∙ sym (append-assoc (code (u .number)) (code (mark (eqb (m .number) 1))) (m .rest))
+      )
+      ∙ sym (append-assoc (code (y .number)) (code (u .number) ++ code (mark (eqb (m .number) 1))) (m .rest))
       ))
       (y .there .fits, u .there .fits)
 
@@ -171,8 +171,8 @@ module _ (bs : List ℕ) (e : Entry) (rest : List ℕ) (h : Bytes bs) where
       let m = behind 1 (y .rest) (λ m. met (stop-note (eui (y .number)) (eqb m 1))) x (y .bytes) (y .on) in
       made (9 ∷ bs) (stop-note (eui (y .number)) (eqb (m .number) 1)) e (m .rest) rest (m .on)
       (ap (λ (z : List ℕ). 9 ∷ z) (
-          y .there .front ∙ ap (λ (z : List ℕ). code (y .number) ++ z) (marked m)
-          ∙ sym (append-assoc (code (y .number)) (code (mark (eqb (m .number) 1))) (m .rest))
+      y .there .front ∙ ap (λ (z : List ℕ). code (y .number) ++ z) (marked m)
+      ∙ sym (append-assoc (code (y .number)) (code (mark (eqb (m .number) 1))) (m .rest))
       ))
       (y .there .fits)
 
@@ -180,7 +180,8 @@ module _ (bs : List ℕ) (e : Entry) (rest : List ℕ) (h : Bytes bs) where
 pick : {X : Type 0} (k j : ℕ) (x y z : X) → cond (eqb k j) x y ≡ z → ((k ≡ j) × (x ≡ z)) ⊎ (y ≡ z)
 pick k j x y z q =
     elim (cases-eq k j) [
-        inl e ↦ inl (e, sym (cond-true (eqb k j) x y (eq-eqb k j e)) ∙ q) | inr n ↦ inr (sym (cond-false (eqb k j) x y (ne-eqb k j n)) ∙ q)
+      | inl e ↦ inl (e, sym (cond-true (eqb k j) x y (eq-eqb k j e)) ∙ q)
+      | inr n ↦ inr (sym (cond-false (eqb k j) x y (ne-eqb k j n)) ∙ q)
     ]
 
 -- what a reader finds stands there
@@ -190,41 +191,41 @@ entry-sound [] e rest h q = absurd (let z : _≡_ {A = ℕ} 0 1 = cc in omega ar
 entry-sound (k ∷ bs) e rest h q =
     let of-kind : (j : ℕ) → k ≡ j → Entry-at (j ∷ bs) e rest → Entry-at (k ∷ bs) e rest = λ j y a. subst (λ (i : ℕ). Entry-at (i ∷ bs) e rest) (sym y) a in
     elim (pick k 1 _ _ _ (q)) [
-        inl w ↦ of-kind 1 (w .0) (request-sound bs e rest (λ k. h (suc k)) (w .1))
-        | inr v ↦
-            elim (pick k 2 _ _ _ v) [
-                inl w ↦ of-kind 2 (w .0) (made (2 ∷ bs) bus-reset e bs rest (w .1) refl tt)
-                | inr v ↦
-                    elim (pick k 3 _ _ _ v) [
-                        inl w ↦ of-kind 3 (w .0) (made (3 ∷ bs) net-update e bs rest (w .1) refl tt)
+      | inl w ↦ of-kind 1 (w .0) (request-sound bs e rest (λ k. h (suc k)) (w .1))
+      | inr v ↦
+          elim (pick k 2 _ _ _ v) [
+            | inl w ↦ of-kind 2 (w .0) (made (2 ∷ bs) bus-reset e bs rest (w .1) refl tt)
+            | inr v ↦
+                elim (pick k 3 _ _ _ v) [
+                  | inl w ↦ of-kind 3 (w .0) (made (3 ∷ bs) net-update e bs rest (w .1) refl tt)
+                  | inr v ↦
+                      elim (pick k 4 _ _ _ v) [
+                        | inl w ↦ of-kind 4 (w .0) (made (4 ∷ bs) gap e bs rest (w .1) refl tt)
                         | inr v ↦
-                            elim (pick k 4 _ _ _ v) [
-                                inl w ↦ of-kind 4 (w .0) (made (4 ∷ bs) gap e bs rest (w .1) refl tt)
-                                | inr v ↦
-                                    elim (pick k 5 _ _ _ v) [
-                                        inl w ↦ of-kind 5 (w .0) (made (5 ∷ bs) tick e bs rest (w .1) refl tt)
-                                        | inr v ↦
-                                            elim (pick k 6 _ _ _ v) [
-                                                inl w ↦ of-kind 6 (w .0) (made (6 ∷ bs) access-change e bs rest (w .1) refl tt)
+                            elim (pick k 5 _ _ _ v) [
+                              | inl w ↦ of-kind 5 (w .0) (made (5 ∷ bs) tick e bs rest (w .1) refl tt)
+                              | inr v ↦
+                                  elim (pick k 6 _ _ _ v) [
+                                    | inl w ↦ of-kind 6 (w .0) (made (6 ∷ bs) access-change e bs rest (w .1) refl tt)
+                                    | inr v ↦
+                                        elim (pick k 7 _ _ _ v) [
+                                          | inl w ↦ of-kind 7 (w .0) (bus-note-sound bs e rest (λ k. h (suc k)) (w .1))
+                                          | inr v ↦
+                                              elim (pick k 8 _ _ _ v) [
+                                                | inl w ↦ of-kind 8 (w .0) (pair-note-sound bs e rest (λ k. h (suc k)) (w .1))
                                                 | inr v ↦
-                                                    elim (pick k 7 _ _ _ v) [
-                                                        inl w ↦ of-kind 7 (w .0) (bus-note-sound bs e rest (λ k. h (suc k)) (w .1))
-                                                        | inr v ↦
-                                                            elim (pick k 8 _ _ _ v) [
-                                                                inl w ↦ of-kind 8 (w .0) (pair-note-sound bs e rest (λ k. h (suc k)) (w .1))
-                                                                | inr v ↦
-                                                                    elim (pick k 9 _ _ _ v) [
-                                                                        inl w ↦ of-kind 9 (w .0) (stop-note-sound bs e rest (λ k. h (suc k)) (w .1))
-                                                                        | inr v ↦
-                                                                            absurd (let z : _≡_ {A = ℕ} 0 1 = cc in omega arith)
-                                                                    ]
-                                                            ]
+                                                    elim (pick k 9 _ _ _ v) [
+                                                      | inl w ↦ of-kind 9 (w .0) (stop-note-sound bs e rest (λ k. h (suc k)) (w .1))
+                                                      | inr v ↦
+                                                          absurd (let z : _≡_ {A = ℕ} 0 1 = cc in omega arith)
                                                     ]
-                                            ]
-                                    ]
+                                              ]
+                                        ]
+                                  ]
                             ]
-                    ]
-            ]
+                      ]
+                ]
+          ]
     ]
 
 -- nothing is found where nothing stands

@@ -61,7 +61,7 @@ unfolding entry-at
 kind-unknown bs h other =
     let k : ℕ = getD bs 0 0 in
     let past : (j : ℕ) (x y : Option (Entry × List ℕ)) → 1 ≤ j → j ≤ 9 → cond (eqb k j) x y ≡ y =
-        λ j x y a b. cond-false (eqb k j) x y (ne-eqb k j (other j a b)) in
+    λ j x y a b. cond-false (eqb k j) x y (ne-eqb k j (other j a b)) in
     ap entry-at (front-of bs h)
     ∙ past 1 _ _ (omega arith) (omega arith)
     ∙ past 2 _ _ (omega arith) (omega arith)

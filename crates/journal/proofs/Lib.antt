@@ -5,3 +5,4 @@ pub mod Entries
 pub mod Seen
 pub mod Journals
 pub mod Writes
+pub mod Again

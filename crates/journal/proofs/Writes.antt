@@ -16,19 +16,19 @@ put-put : (area xs ys : List ℕ) (at mid : ℕ) → mid ≡ at + length xs → 
 put-put area xs ys at mid e h =
     let head : List ℕ = take at area ++ xs in
     let whole : put area at xs ≡ head ++ drop mid area =
-        ap (λ (k : ℕ). take at area ++ (xs ++ drop k area)) (sym e) ∙ sym (append-assoc (take at area) xs (drop mid area)) in
+    ap (λ (k : ℕ). take at area ++ (xs ++ drop k area)) (sym e) ∙ sym (append-assoc (take at area) xs (drop mid area)) in
     let long : length head ≡ mid = length-append (take at area) xs ∙ omega (arith, length-take-le at area (omega arith)) in
     let front : take mid (put area at xs) ≡ head = ap (take mid) whole ∙ take-at head (drop mid area) mid long in
     let back : drop (mid + length ys) (put area at xs) ≡ drop (mid + length ys) area =
-        sym (drop-drop (length ys) mid (put area at xs))
-        ∙ ap (drop (length ys)) (ap (drop mid) whole ∙ drop-at head (drop mid area) mid long)
-        ∙ drop-drop (length ys) mid area in
+    sym (drop-drop (length ys) mid (put area at xs))
+    ∙ ap (drop (length ys)) (ap (drop mid) whole ∙ drop-at head (drop mid area) mid long)
+    ∙ drop-drop (length ys) mid area in
     let far : mid + length ys ≡ at + length (xs ++ ys) = omega (arith, length-append xs ys) in
     rw (front, back) (
-        append-assoc (take at area) xs (ys ++ drop (mid + length ys) area)
-        ∙ ap (λ (z : List ℕ). take at area ++ z) (
-            sym (append-assoc xs ys (drop (mid + length ys) area)) ∙ ap (λ (k : ℕ). (xs ++ ys) ++ drop k area) far
-        )
+    append-assoc (take at area) xs (ys ++ drop (mid + length ys) area)
+    ∙ ap (λ (z : List ℕ). take at area ++ z) (
+    sym (append-assoc xs ys (drop (mid + length ys) area)) ∙ ap (λ (k : ℕ). (xs ++ ys) ++ drop k area) far
+    )
     )
 
 pub wrote-then : (one two three xs ys : List ℕ) (at mid end : ℕ) → at + length xs ≤ length one → Wrote one two at mid xs → Wrote two three mid end ys → Wrote one three at end (xs ++ ys)
@@ -37,6 +37,6 @@ wrote-then one two three xs ys at mid end h a b =
     let p = a .ends in
     let q = b .ends in
     record {
-        ends = omega arith;
-        area = b .area ∙ ap (λ (z : List ℕ). put z mid ys) (a .area) ∙ put-put one xs ys at mid p (omega arith)
+      ends = omega arith;
+      area = b .area ∙ ap (λ (z : List ℕ). put z mid ys) (a .area) ∙ put-put one xs ys at mid p (omega arith);
     }

@@ -2,7 +2,11 @@
 use Prim.Native.Nat.{ℕ, _<_, _≤_}
 use mathlib.Core.Path.{_≡_}
 use mathlib.Core.List.{List, [], _∷_, _++_}
-use lib.ListN.{length}
+use mathlib.Core.Bool.{Bool, _&&_, cond}
+use lib.Dec.{leb}
+use lib.ListN.{length, drop}
+use Rattle.std.specs.declared.result.Result.{Result}
+use Rattle.std.specs.declared.result.Result.the-variants.{Ok, Err}
 use Rattle.std.specs.declared.option.Option.{Option}
 use Rattle.std.specs.declared.option.Option.the-variants.{Some, None}
 use mathlib.Core.Logic.{_⊎_}
@@ -45,3 +49,15 @@ pub record Long (bs : List ℕ) (es : List Entry) (refusal : Refusal) : Type 0 w
 abbrev pub Reads : List ℕ → List Entry → Option Refusal → Type 0
 Reads bs es None = Whole bs es
 Reads bs es (Some refusal) = Broken bs es refusal ⊎ Long bs es refusal
+
+-- a journal fits an area that holds all its bytes, if it is not too long
+abbrev pub fits : List Entry → List ℕ → Bool
+fits es area = leb (length (journal-code es)) longest-journal && leb (length (journal-code es)) (length area)
+
+-- the number of bytes, or a refusal with it
+abbrev pub written-answer : List Entry → List ℕ → Result ℕ Refusal
+written-answer es area = cond (fits es area) (Ok (length (journal-code es))) (Err (JournalTooLong (length (journal-code es))))
+
+-- the journal and then what the area held there, or the area as it was
+abbrev pub written-area : List Entry → List ℕ → List ℕ
+written-area es area = cond (fits es area) (journal-code es ++ drop (length (journal-code es)) area) area

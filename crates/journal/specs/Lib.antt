@@ -3,3 +3,4 @@ pub mod Numbers
 pub mod Entries
 pub mod Journals
 pub mod Reading
+pub mod Trips

@@ -27,7 +27,7 @@ unfoldable pub number-at : ℕ → List ℕ → Option (ℕ × List ℕ)
 number-at bits [] = None
 number-at bits (b ∷ bs) =
     cond (ltb b 128) (cond (ltb b (2 ^ bits)) (found b bs) None) (
-        cond (leb bits 7) None (above b (number-at (bits - 7) bs))
+    cond (leb bits 7) None (above b (number-at (bits - 7) bs))
     )
 
 -- what the code hands over, without where its bytes lie
@@ -62,7 +62,7 @@ bus-note-at bs = after (number-at 16 bs) (λ node rest. after (number-at 64 rest
 abbrev pub pair-note-at : List ℕ → Option (Entry × List ℕ)
 pair-note-at bs =
     after (number-at 64 bs) (λ e rest.
-        after (number-at 16 rest) (λ unit rest. after (number-at 1 rest) (λ m. met (pair-note (eui e) unit (eqb m 1)))))
+    after (number-at 16 rest) (λ unit rest. after (number-at 1 rest) (λ m. met (pair-note (eui e) unit (eqb m 1)))))
 
 abbrev pub stop-note-at : List ℕ → Option (Entry × List ℕ)
 stop-note-at bs = after (number-at 64 bs) (λ e rest. after (number-at 1 rest) (λ m. met (stop-note (eui e) (eqb m 1))))
@@ -72,19 +72,19 @@ unfoldable pub entry-at : List ℕ → Option (Entry × List ℕ)
 entry-at [] = None
 entry-at (k ∷ bs) =
     cond (eqb k 1) (request-at bs) (
-        cond (eqb k 2) (met bus-reset bs) (
-            cond (eqb k 3) (met net-update bs) (
-                cond (eqb k 4) (met gap bs) (
-                    cond (eqb k 5) (met tick bs) (
-                        cond (eqb k 6) (met access-change bs) (
-                            cond (eqb k 7) (bus-note-at bs) (
-                                cond (eqb k 8) (pair-note-at bs) (cond (eqb k 9) (stop-note-at bs) None)
-                            )
-                        )
-                    )
-                )
-            )
-        )
+    cond (eqb k 2) (met bus-reset bs) (
+    cond (eqb k 3) (met net-update bs) (
+    cond (eqb k 4) (met gap bs) (
+    cond (eqb k 5) (met tick bs) (
+    cond (eqb k 6) (met access-change bs) (
+    cond (eqb k 7) (bus-note-at bs) (
+    cond (eqb k 8) (pair-note-at bs) (cond (eqb k 9) (stop-note-at bs) None)
+    )
+    )
+    )
+    )
+    )
+    )
     )
 
 -- what the code hands over, without where its bytes lie

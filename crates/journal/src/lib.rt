@@ -2,4 +2,5 @@
 mod numbers;
 pub mod reading;
 pub mod record;
+pub mod trips;
 pub mod writing;

@@ -25,7 +25,14 @@ fn read_request(bytes: &[u8]) -> Option<(Record<'_>, &[u8])>
     let (orb_address, rest) = read_number(rest, 64)?;
     let (orb, rest) = rest.split_first_chunk::<32>()?;
     let source = NodeId(source);
-    Some((Record::Request { source, orb_address, orb }, rest))
+    Some((
+        Record::Request {
+            source,
+            orb_address,
+            orb,
+        },
+        rest,
+    ))
 }
 
 fn read_bus_note(bytes: &[u8]) -> Option<(Record<'_>, &[u8])>
@@ -46,7 +53,14 @@ fn read_pair_note(bytes: &[u8]) -> Option<(Record<'_>, &[u8])>
     let (mark, rest) = read_number(rest, 1)?;
     let eui_64 = Eui64(eui_64);
     let admitted = mark == 1;
-    Some((Record::PairNote { eui_64, unit, admitted }, rest))
+    Some((
+        Record::PairNote {
+            eui_64,
+            unit,
+            admitted,
+        },
+        rest,
+    ))
 }
 
 fn read_stop_note(bytes: &[u8]) -> Option<(Record<'_>, &[u8])>
@@ -108,5 +122,8 @@ pub fn read_journal(heap: Global, bytes: &[u8]) -> Result<Journal<'_>, AllocErro
         records.push(record)?;
         rest = after;
     }
-    Ok(Journal { records, refusal: None })
+    Ok(Journal {
+        records,
+        refusal: None,
+    })
 }

@@ -3,10 +3,13 @@ ghost use mathlib.Core.Path.{_≡_};
 ghost use mathlib.Core.List.{[], _∷_, _++_};
 ghost use Prim.Native.Nat.{_+_, _^_, _<_, _≤_};
 ghost use lib.ListN.{length};
-ghost use Rattle.journal.specs.Entries.{entry, entry-code, Within};
+ghost use Rattle.journal.specs.Entries.{entry, entries, entry-code, journal-code, Within};
+ghost use Rattle.journal.specs.Journals.{All-within, written-answer, written-area};
 ghost use Rattle.journal.specs.Numbers.{code};
-ghost use Rattle.journal.specs.Areas.{Wrote};
+ghost use Rattle.journal.specs.Areas.{put, Wrote};
+use crate::reading::LONGEST_JOURNAL;
 use crate::record::Record;
+use reader::refusal::Refusal;
 
 fn number_len(n: u64) -> usize
     ensures value { λ r. ⌜ r ≡ length (code n) ⌝ }
@@ -18,7 +21,7 @@ fn number_len(n: u64) -> usize
 
 fn half_len(n: u16) -> usize
     ensures value { λ r. ⌜ r ≡ length (code n) ⌝ }
-    ensures bound { λ r. ⌜ r ≤ 10 ⌝ }
+    ensures bound { λ r. ⌜ r ≤ 3 ⌝ }
     ensures fits { λ _. ⌜ n < 2 ^ 16 ⌝ }
 {
     number_len(u64::from(n))
@@ -34,15 +37,20 @@ fn orb_len(orb: &[u8; 32]) -> usize
 /// How many bytes a record takes.
 pub fn record_len(record: Record<'_>) -> usize
     ensures value { λ r. ⌜ r ≡ length (entry-code (entry («record» .entry))) ⌝ }
-    ensures bound { λ r. ⌜ r ≤ 53 ⌝ }
+    ensures bound { λ r. ⌜ r ≤ 46 ⌝ }
     ensures within { λ _. ⌜ Within (entry («record» .entry)) ⌝ }
 {
     match record {
-        Record::Request { source, orb_address, orb } => 1 + half_len(source.0) + number_len(orb_address) + orb_len(orb),
+        Record::Request {
+            source,
+            orb_address,
+            orb,
+        } => 1 + half_len(source.0) + number_len(orb_address) + orb_len(orb),
         Record::BusNote { node, eui_64 } => 1 + half_len(node.0) + number_len(eui_64.0),
         Record::PairNote { eui_64, unit, .. } => 2 + number_len(eui_64.0) + half_len(unit),
         Record::StopNote { eui_64, .. } => 2 + number_len(eui_64.0),
-        Record::BusReset | Record::NetUpdate | Record::Gap | Record::Tick | Record::AccessChange => 1,
+        Record::BusReset | Record::NetUpdate | Record::Gap | Record::Tick | Record::AccessChange =>
+            1,
     }
 }
 
@@ -105,14 +113,66 @@ fn write_record(record: Record<'_>, area: &mut [u8], at: usize) -> usize
     ensures { λ r. ⌜ Wrote (now (area .entry)) (now (area .exit)) at r (entry-code (entry («record» .entry))) ⌝ }
 {
     match record {
-        Record::Request { source, orb_address, orb } => write_request(u64::from(source.0), orb_address, orb, area, at),
+        Record::Request {
+            source,
+            orb_address,
+            orb,
+        } => write_request(u64::from(source.0), orb_address, orb, area, at),
         Record::BusReset => write_byte(2, area, at),
         Record::NetUpdate => write_byte(3, area, at),
         Record::Gap => write_byte(4, area, at),
         Record::Tick => write_byte(5, area, at),
         Record::AccessChange => write_byte(6, area, at),
         Record::BusNote { node, eui_64 } => write_two(7, u64::from(node.0), eui_64.0, area, at),
-        Record::PairNote { eui_64, unit, admitted } => write_pair_note(eui_64.0, u64::from(unit), u64::from(admitted), area, at),
-        Record::StopNote { eui_64, stopped } => write_two(9, eui_64.0, u64::from(stopped), area, at),
+        Record::PairNote {
+            eui_64,
+            unit,
+            admitted,
+        } => write_pair_note(eui_64.0, u64::from(unit), u64::from(admitted), area, at),
+        Record::StopNote { eui_64, stopped } => write_two(
+            9,
+            eui_64.0,
+            u64::from(stopped),
+            area,
+            at,
+        ),
     }
+}
+
+/// How many bytes the records take, one after another.
+pub fn journal_len(records: &[Record<'_>]) -> usize
+    ensures value { λ r. ⌜ r ≡ length (journal-code (entries (now (records .entry)))) ⌝ }
+    ensures within { λ _. ⌜ All-within (entries (now (records .entry))) ⌝ }
+{
+    let mut total = 0;
+    for record in records {
+        total += record_len(*record);
+    }
+    total
+}
+
+// Records whose bytes fit the area.
+fn write_records(records: &[Record<'_>], area: &mut [u8])
+    requires { ⌜ length (journal-code (entries (now records))) ≤ length (now area) ⌝ }
+    ensures { λ _. ⌜ now (area .exit) ≡ put (now (area .entry)) 0 (journal-code (entries (now (records .entry)))) ⌝ }
+{
+    let mut at = 0;
+    for record in records {
+        at = write_record(*record, area, at);
+    }
+}
+
+/// Writes the records at the front of the area, and gives the number of bytes.
+/// Where they do not fit the area, or are more than a journal may have, the area stays as it was.
+pub fn write_journal(records: &[Record<'_>], area: &mut [u8]) -> Result<usize, Refusal>
+    ensures value { λ r. ⌜ r ≡ written-answer (entries (now (records .entry))) (now (area .entry)) ⌝ }
+    ensures after { λ _. ⌜ now (area .exit) ≡ written-area (entries (now (records .entry))) (now (area .entry)) ⌝ }
+    ensures within { λ _. ⌜ All-within (entries (now (records .entry))) ⌝ }
+{
+    let length = journal_len(records);
+    if length > LONGEST_JOURNAL || length > area.len() {
+        return Err(Refusal::JournalTooLong(length));
+    }
+    write_records(records, area);
+    Ok(length)
 }

@@ -34,30 +34,30 @@ pub returns-then-low-lt128 : need.returns-then-low-lt128
 returns-then-low-lt128 t c =
     let e = front-of (c .args .bytes .now) (search needs) in
     let fits : getD (c .args .bytes .now) 0 0 < 2 ^ (c .args .bits) =
-        elim (c .else-bits-lt7 .came) [
-            else-bits-lt7·by·else-bits-lt7 w ↦
-                let h : 7 ≤ c .args .bits = omega arith in let p : 2 ^ 7 ≤ 2 ^ (c .args .bits) = pow-mono h in omega arith
-            | else-bits-lt7·by·then-bits-lt7·else-low-bits w ↦ let s = one-shl (c .args .bits) 8 (omega arith) in omega arith
-        ] in
+    elim (c .else-bits-lt7 .came) [
+      | else-bits-lt7·by·else-bits-lt7 w ↦
+          let h : 7 ≤ c .args .bits = omega arith in let p : 2 ^ 7 ≤ 2 ^ (c .args .bits) = pow-mono h in omega arith
+      | else-bits-lt7·by·then-bits-lt7·else-low-bits w ↦ let s = one-shl (c .args .bits) 8 (omega arith) in omega arith
+    ] in
     rw (c .from .ensures) (sym (ap (number-at (c .args .bits)) e ∙ at-small (c .args .bits) _ _ (c .if-low-lt128 .taken) fits))
 
 pub returns-in-Break-high : need.returns-in-Break-high
 returns-in-Break-high t c =
     let e = front-of (c .args .bytes .now) (search needs) in
     rw (c .from-residual .ensures) (
-        sym (
-            ap (number-at (c .args .bits)) e ∙ at-more (c .args .bits) _ _ (omega arith) (omega arith)
-            ∙ ap (above (getD (c .args .bytes .now) 0 0)) (sym (c .in-Break-high .ensures tt))
-        )
+    sym (
+    ap (number-at (c .args .bits)) e ∙ at-more (c .args .bits) _ _ (omega arith) (omega arith)
+    ∙ ap (above (getD (c .args .bytes .now) 0 0)) (sym (c .in-Break-high .ensures tt))
+    )
     )
 
 pub returns-then-high-eq0 : need.returns-then-high-eq0
 returns-then-high-eq0 t c =
     let e = front-of (c .args .bytes .now) (search needs) in
     sym (
-        ap (number-at (c .args .bits)) e ∙ at-more (c .args .bits) _ _ (omega arith) (omega arith)
-        ∙ ap (above (getD (c .args .bytes .now) 0 0)) (sym (c .in-Continue-high .ensures tt))
-        ∙ cond-true (eqb (c .in-Continue-high .high) 0) None _ (eq-eqb (c .in-Continue-high .high) 0 (c .if-high-eq0 .taken))
+    ap (number-at (c .args .bits)) e ∙ at-more (c .args .bits) _ _ (omega arith) (omega arith)
+    ∙ ap (above (getD (c .args .bytes .now) 0 0)) (sym (c .in-Continue-high .ensures tt))
+    ∙ cond-true (eqb (c .in-Continue-high .high) 0) None _ (eq-eqb (c .in-Continue-high .high) 0 (c .if-high-eq0 .taken))
     )
 
 pub mul-result : need.mul-result
@@ -72,9 +72,9 @@ pub returns : need.returns
 returns t c =
     let e = front-of (c .args .bytes .now) (search needs) in
     rw (c .from-2 .ensures) (
-        sym (
-            ap (number-at (c .args .bits)) e ∙ at-more (c .args .bits) _ _ (omega arith) (omega arith)
-            ∙ ap (above (getD (c .args .bytes .now) 0 0)) (sym (c .in-Continue-high .ensures tt))
-            ∙ cond-false (eqb (c .in-Continue-high .high) 0) None _ (ne-eqb (c .in-Continue-high .high) 0 (c .if-high-eq0 .left))
-        )
+    sym (
+    ap (number-at (c .args .bits)) e ∙ at-more (c .args .bits) _ _ (omega arith) (omega arith)
+    ∙ ap (above (getD (c .args .bytes .now) 0 0)) (sym (c .in-Continue-high .ensures tt))
+    ∙ cond-false (eqb (c .in-Continue-high .high) 0) None _ (ne-eqb (c .in-Continue-high .high) 0 (c .if-high-eq0 .left))
+    )
     )

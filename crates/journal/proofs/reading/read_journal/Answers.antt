@@ -22,11 +22,10 @@ pub loop-rest-less : need.loop-rest-less
 loop-rest-less c = shorter (c .loop-rest .rest .now) (entry (c .in-Some .record)) (c .in-Some .after .now) (c .in-Some .ensures tt)
 
 pub loop-rest-again : need.loop-rest-again
-loop-rest-again c =
-    (
-        c .loop-rest .inv .0,
-        one-more (c .args .bytes .now) (vec-items (c .loop-rest .records)) (vec-items (c .push .last .self)) (c .in-Some .record) (c .loop-rest .rest .now) (c .in-Some .after .now) (c .in-Continue-push .ensures tt .items) (c .loop-rest .inv .1) (c .in-Some .ensures tt)
-    )
+loop-rest-again c = (
+  c .loop-rest .inv .0,
+  one-more (c .args .bytes .now) (vec-items (c .loop-rest .records)) (vec-items (c .push .last .self)) (c .in-Some .record) (c .loop-rest .rest .now) (c .in-Some .after .now) (c .in-Continue-push .ensures tt .items) (c .loop-rest .inv .1) (c .in-Some .ensures tt),
+)
 
 pub returns : need.returns
 returns c =

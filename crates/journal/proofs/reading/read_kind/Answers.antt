@@ -46,6 +46,6 @@ returns-in-9 c = c .read-stop-note .ensures ∙ sym (ap entry-at (kind-front 9 (
 pub returns-in-rest : need.returns-in-rest
 returns-in-rest c =
     elim (c .in-rest .came) [
-        in-rest·by·then-bytes-lt1 w ↦ sym (entry-none (c .args .bytes .now) (search needs))
-        | in-rest·by·else-bytes-lt1·in-rest· w ↦ sym (kind-unknown (c .args .bytes .now) (search needs) (λ j a b e. omega arith))
+      | in-rest·by·then-bytes-lt1 w ↦ sym (entry-none (c .args .bytes .now) (search needs))
+      | in-rest·by·else-bytes-lt1·in-rest· w ↦ sym (kind-unknown (c .args .bytes .now) (search needs) (λ j a b e. omega arith))
     ]

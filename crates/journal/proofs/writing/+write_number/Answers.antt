@@ -26,5 +26,5 @@ pub returns : need.returns
 returns t c =
     let more = code-more (c .args .n) (omega arith) in
     subst (λ (bs : List ℕ). Wrote (c .args .area .now) (c .write-number .last .area) (c .args .at) (c .write-number .result) bs) (sym more) (
-        wrote-then (c .args .area .now) (c .write-byte-at .last .area) (c .write-number .last .area) ((c .args .n % 128 + 128) ∷ []) _ (c .args .at) (c .write-byte-at .result) (c .write-number .result) (omega (arith, code-length (c .args .n))) (c .write-byte-at .ensures) (c .write-number .ensures)
+    wrote-then (c .args .area .now) (c .write-byte-at .last .area) (c .write-number .last .area) ((c .args .n % 128 + 128) ∷ []) _ (c .args .at) (c .write-byte-at .result) (c .write-number .result) (omega (arith, code-length (c .args .n))) (c .write-byte-at .ensures) (c .write-number .ensures)
     )

@@ -27,9 +27,9 @@ returns-in-Request c =
     let z : List ℕ = c .in-Request .orb .now in
     let is = ap bytes-of (c .in-Request .is) in
     record {
-        value = omega (arith, is, length-append a (b ++ z), length-append b z);
-        bound = omega arith;
-        within = rw (c .in-Request .is) (c .half-len .ensures .fits, c .number-len .ensures .fits, omega arith)
+      value = omega (arith, is, length-append a (b ++ z), length-append b z);
+      bound = omega arith;
+      within = rw (c .in-Request .is) (c .half-len .ensures .fits, c .number-len .ensures .fits, omega arith);
     }
 
 pub returns-in-BusNote : need.returns-in-BusNote
@@ -39,9 +39,9 @@ returns-in-BusNote c =
     let b : List ℕ = code (c .in-BusNote .eui-64 .0) in
     let is = ap bytes-of (c .in-BusNote .is) in
     record {
-        value = omega (arith, is, length-append a b);
-        bound = omega arith;
-        within = rw (c .in-BusNote .is) (c .half-len-in-BusNote .ensures .fits, c .number-len-in-BusNote .ensures .fits)
+      value = omega (arith, is, length-append a b);
+      bound = omega arith;
+      within = rw (c .in-BusNote .is) (c .half-len-in-BusNote .ensures .fits, c .number-len-in-BusNote .ensures .fits);
     }
 
 pub returns-in-PairNote : need.returns-in-PairNote
@@ -52,9 +52,9 @@ returns-in-PairNote c =
     let z : List ℕ = code (mark (c .in-PairNote .admitted)) in
     let is = ap bytes-of (c .in-PairNote .is) in
     record {
-        value = omega (arith, is, length-append a (b ++ z), length-append b z, one-bit (c .in-PairNote .admitted));
-        bound = omega arith;
-        within = rw (c .in-PairNote .is) (c .number-len-in-PairNote .ensures .fits, c .half-len-in-PairNote .ensures .fits)
+      value = omega (arith, is, length-append a (b ++ z), length-append b z, one-bit (c .in-PairNote .admitted));
+      bound = omega arith;
+      within = rw (c .in-PairNote .is) (c .number-len-in-PairNote .ensures .fits, c .half-len-in-PairNote .ensures .fits);
     }
 
 pub returns-in-StopNote : need.returns-in-StopNote
@@ -64,7 +64,7 @@ returns-in-StopNote c =
     let z : List ℕ = code (mark (c .in-StopNote .stopped)) in
     let is = ap bytes-of (c .in-StopNote .is) in
     record {
-        value = omega (arith, is, length-append a z, one-bit (c .in-StopNote .stopped));
-        bound = omega arith;
-        within = rw (c .in-StopNote .is) (c .number-len-in-StopNote .ensures .fits)
+      value = omega (arith, is, length-append a z, one-bit (c .in-StopNote .stopped));
+      bound = omega arith;
+      within = rw (c .in-StopNote .is) (c .number-len-in-StopNote .ensures .fits);
     }

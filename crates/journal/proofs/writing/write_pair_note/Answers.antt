@@ -30,5 +30,5 @@ returns c =
     let b : List ℕ = code (c .args .unit) in
     let z : List ℕ = (code (c .args .mark)) in
     subst (λ (bs : List ℕ). Wrote (c .args .area .now) (c .write-number .last .area) (c .args .at) (c .write-number .result) bs) (ap (λ (bs : List ℕ). 8 ∷ bs) (append-assoc a b z)) (
-        wrote-then (c .args .area .now) (c .write-two-at .last .area) (c .write-number .last .area) (8 ∷ (a ++ b)) z (c .args .at) (c .write-two-at .result) (c .write-number .result) (omega (arith, length-append a (b ++ z), length-append b z, length-append a b)) (c .write-two-at .ensures) (c .write-number .ensures)
+    wrote-then (c .args .area .now) (c .write-two-at .last .area) (c .write-number .last .area) (8 ∷ (a ++ b)) z (c .args .at) (c .write-two-at .result) (c .write-number .result) (omega (arith, length-append a (b ++ z), length-append b z, length-append a b)) (c .write-two-at .ensures) (c .write-number .ensures)
     )

@@ -30,5 +30,5 @@ returns c =
     let b : List ℕ = code (c .args .orb-address) in
     let z : List ℕ = (c .args .orb .now) in
     subst (λ (bs : List ℕ). Wrote (c .args .area .now) (c .write-bytes .last .area) (c .args .at) (c .write-bytes .result) bs) (ap (λ (bs : List ℕ). 1 ∷ bs) (append-assoc a b z)) (
-        wrote-then (c .args .area .now) (c .write-two-at .last .area) (c .write-bytes .last .area) (1 ∷ (a ++ b)) z (c .args .at) (c .write-two-at .result) (c .write-bytes .result) (omega (arith, length-append a (b ++ z), length-append b z, length-append a b)) (c .write-two-at .ensures) (c .write-bytes .ensures)
+    wrote-then (c .args .area .now) (c .write-two-at .last .area) (c .write-bytes .last .area) (1 ∷ (a ++ b)) z (c .args .at) (c .write-two-at .result) (c .write-bytes .result) (omega (arith, length-append a (b ++ z), length-append b z, length-append a b)) (c .write-two-at .ensures) (c .write-bytes .ensures)
     )

@@ -19,5 +19,5 @@ returns c =
     let l = length-append (code (c .args .first)) (code (c .args .second)) in
     let e = c .write-byte-at .ensures .ends in
     wrote-then (c .args .area .now) (c .write-byte-at .last .area) (c .write-number .last .area) (c .args .kind ∷ []) (code (c .args .first) ++ code (c .args .second)) (c .args .at) (c .write-byte-at .result) (c .write-number .result) (omega arith) (c .write-byte-at .ensures) (
-        wrote-then (c .write-byte-at .last .area) (c .write-number-at .last .area) (c .write-number .last .area) (code (c .args .first)) (code (c .args .second)) (c .write-byte-at .result) (c .write-number-at .result) (c .write-number .result) (omega arith) (c .write-number-at .ensures) (c .write-number .ensures)
+    wrote-then (c .write-byte-at .last .area) (c .write-number-at .last .area) (c .write-number .last .area) (code (c .args .first)) (code (c .args .second)) (c .write-byte-at .result) (c .write-number-at .result) (c .write-number .result) (omega arith) (c .write-number-at .ensures) (c .write-number .ensures)
     )
