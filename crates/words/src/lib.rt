@@ -1,0 +1,2 @@
+// A journal in words, for support and field engineers.
+pub mod requests;
