@@ -46,6 +46,6 @@ impl Eui64 {
     pub fn is_none(self) -> bool
         ensures { λ r. ⌜ r ≡ none-eui self ⌝ }
     {
-        self.0 == 0xFFFF_FFFF_FFFF_FFFF
+        self.0 == u64::MAX
     }
 }
