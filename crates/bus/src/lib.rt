@@ -1,7 +1,7 @@
 // What every bus answers, by its meaning: its own ID, and for each node ID an EUI-64 or nobody.
 ghost use mathlib.Core.Path.{_≡_};
 ghost use Rattle.bus.specs.Meaning.{BusModel, Lawful};
-ghost use Rattle.bus.specs.Finding.{Finds};
+ghost use Rattle.bus.specs.Finding.{Finds, local-of};
 
 pub mod harness;
 
@@ -39,4 +39,11 @@ pub trait Bus {
     /// Notes who is at a node ID in the next topology; all ones is nobody, as None is.
     fn note(&mut self, node: NodeId, eui: Option<Eui64>) -> Result<(), Refusal>
         ensures { λ r. ⌜ model .Notes (now (self .entry)) node eui r (now (self .exit)) ⌝ };
+}
+
+/// The local ID that shows an EUI-64, as a value of what the bus shows: there is one at most.
+pub fn local_id<B: Bus>(bus: &B, eui: Eui64) -> Option<NodeId>
+    ensures { λ r. ⌜ r ≡ local-of (B·Bus .model .shows (now (bus .entry))) eui ⌝ }
+{
+    bus.find(eui)
 }
