@@ -1,3 +1,4 @@
 pub mod Meaning
 pub mod Finding
 pub mod Harnesses
+pub mod Places

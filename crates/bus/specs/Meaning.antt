@@ -1,17 +1,30 @@
 -- What a bus means, what its events make of it, and what every bus owes. Assumes nothing.
 use mathlib.Core.Path.{_≡_}
-use mathlib.Core.Bool.{Bool, true, false, _||_}
+use mathlib.Core.Bool.{Bool, true, false, cond, _||_}
 use Rattle.std.specs.declared.option.Option.{Option}
 use Rattle.std.specs.declared.option.Option.the-variants.{Some, None}
 use Rattle.std.specs.declared.result.Result.{Result}
+use Rattle.std.specs.declared.result.Result.the-variants.{Ok, Err}
 use Rattle.reader.specs.declared.ids.NodeId.{NodeId}
 use Rattle.reader.specs.declared.ids.Eui64.{Eui64}
 use Rattle.reader.specs.declared.refusal.Refusal.{Refusal}
 use Rattle.reader.specs.Ids.{none-id, local, broadcast, global, none-eui}
 
+-- an EUI-64 of all ones is nobody
+abbrev pub nobody : Eui64
+nobody = record { 0 = 0xFFFF_FFFF_FFFF_FFFF }
+
+abbrev pub somebody : Eui64 → Option Eui64
+somebody e = cond (none-eui e) None (Some e)
+
 -- what a note is answered
 abbrev pub Answer : Type 0
 Answer = Result (Unit {0}) Refusal
+
+-- what there is after a note: a refused one changes nothing
+abbrev pub if-granted : {X : Type 0} → Answer → X → X → X
+if-granted (Ok done) new old = new
+if-granted (Err refusal) new old = old
 
 -- The meaning of a bus: its own ID, and for each node ID an EUI-64 or nobody. Then what a bus reset,
 -- a net update and a note (node ID, EUI-64 or nobody, answer) make of one bus: another, after them.

@@ -1,9 +1,10 @@
 // What every bus answers, by its meaning: its own ID, and for each node ID an EUI-64 or nobody.
 ghost use mathlib.Core.Path.{_≡_};
-ghost use Rattle.bus.specs.Meaning.{BusModel, Lawful};
+ghost use Rattle.bus.specs.Meaning.{BusModel, Lawful, somebody};
 ghost use Rattle.bus.specs.Finding.{Finds, local-of};
 
 pub mod harness;
+mod places;
 
 use reader::ids::Eui64;
 use reader::ids::NodeId;
@@ -46,4 +47,11 @@ pub fn local_id<B: Bus>(bus: &B, eui: Eui64) -> Option<NodeId>
     ensures { λ r. ⌜ r ≡ local-of (B·Bus .model .shows (now (bus .entry))) eui ⌝ }
 {
     bus.find(eui)
+}
+
+/// An EUI-64 of all ones is nobody.
+fn somebody(eui: Eui64) -> Option<Eui64>
+    ensures { λ r. ⌜ r ≡ somebody eui ⌝ }
+{
+    if eui.is_none() { None } else { Some(eui) }
 }

@@ -1,0 +1,6 @@
+use borrow.Author.Needs.{needs}
+use Rattle.std.proofs.shelf.Lists.{getD-default}
+use Rattle.bus.proofs.places.Places.who.Needs as need
+
+pub returns : need.returns
+returns c = search (needs, getD-default)

@@ -1,0 +1,42 @@
+// The places of a local bus, one for each of the 63 local IDs.
+ghost use mathlib.Core.Path.{_≡_};
+ghost use Prim.Native.Nat.{ℕ, _-_};
+ghost use lib.ListN.{length, replicate};
+ghost use Rattle.bus.specs.Meaning.{nobody};
+ghost use Rattle.bus.specs.Finding.{Finds, local-of};
+ghost use Rattle.bus.specs.Places.{Apart, seated, seat-answer, seat-after};
+use crate::somebody;
+use reader::ids::Eui64;
+use reader::ids::Eui64PartialEq;
+use reader::ids::NodeId;
+use reader::ids::NodeIdPartialEq;
+use reader::refusal::Refusal;
+
+const FIRST: u16 = 0xFFC0;
+
+/// Who is at FFC0h, FFC1h and so on; all ones is nobody, and no one else is at two places.
+#[derive(Clone, Copy)]
+pub struct Places {
+    euis: [Eui64; 63],
+    ghost size: { length euis ≡ 63 },
+    ghost apart: { Apart euis },
+}
+
+impl Places {
+    pub fn empty() -> Places
+        ensures { λ r. ⌜ r .euis ≡ replicate 63 nobody ⌝ }
+    {
+        Places {
+            euis: [Eui64::NONE; 63],
+        }
+    }
+
+    pub fn who(&self, node: NodeId) -> Option<Eui64>
+        ensures { λ r. ⌜ r ≡ seated (now (self .entry) .euis) node ⌝ }
+    {
+        if !node.is_local() {
+            return None;
+        }
+        somebody(self.euis[usize::from(node.0 - FIRST)])
+    }
+}
