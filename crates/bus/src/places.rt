@@ -39,4 +39,19 @@ impl Places {
         }
         somebody(self.euis[usize::from(node.0 - FIRST)])
     }
+
+    pub fn find(&self, eui: Eui64) -> Option<NodeId>
+        ensures finds { λ r. ⌜ Finds (seated (now (self .entry) .euis)) eui r ⌝ }
+        ensures value { λ r. ⌜ r ≡ local-of (seated (now (self .entry) .euis)) eui ⌝ }
+    {
+        if eui.is_none() {
+            return None;
+        }
+        for (k, e) in self.euis.iter().enumerate() {
+            if *e == eui {
+                return Some(NodeId(FIRST + k as u16));
+            }
+        }
+        None
+    }
 }
