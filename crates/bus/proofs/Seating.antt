@@ -7,16 +7,19 @@ use Prim.Native.Nat.{ℕ, zero, suc, _+_, _-_, _<_, _≤_}
 use native.Mathlib.Omega.{arith}
 use lib.Dec.{eqb, ltb, leb}
 use lib.ListN.{set, getD, length, replicate}
-use Rattle.std.proofs.shelf.Tests.{both-ways, and-parts, and-from, leb-true, ltb-true, le-leb, lt-ltb, cases-eq}
+use Rattle.std.proofs.shelf.Tests.{eqb-true, both-ways, and-parts, and-from, leb-true, ltb-true, le-leb, lt-ltb, cases-lt}
+use Rattle.std.proofs.shelf.Lists.{getD-past}
 use Rattle.std.specs.declared.option.Option.{Option}
 use Rattle.std.specs.declared.option.Option.the-variants.{Some, None}
+use Rattle.std.specs.declared.result.Result.the-variants.{Err}
 use Rattle.reader.specs.declared.ids.NodeId.{NodeId}
 use Rattle.reader.specs.declared.ids.Eui64.{Eui64}
+use Rattle.reader.specs.declared.refusal.Refusal.the-variants.{NotedElsewhere}
 use Rattle.reader.specs.Ids.{local, none-eui}
-use Rattle.bus.specs.Meaning.{nobody, somebody}
+use Rattle.bus.specs.Meaning.{granted, nobody, somebody}
 use Rattle.bus.specs.Finding.{Finds, node, local-of}
-use Rattle.bus.specs.Places.{place, Apart, seated}
-use Rattle.bus.proofs.Finding.{finds-local-of}
+use Rattle.bus.specs.Places.{place, Apart, seated, but-for}
+use Rattle.bus.proofs.Finding.{local-of-finds, finds-local-of}
 
 place-empty : (n k : ℕ) → place (replicate n nobody) k ≡ nobody
 place-empty zero k = refl
@@ -40,6 +43,22 @@ local-place i h =
     let low = leb-true 0xFFC0 (i .0) (p .0) in
     let high = ltb-true (i .0) 0xFFFF (p .1) in
     (omega arith, omega arith)
+
+-- who may sit down where one sits already sits there
+but-for-same : (i j : NodeId) → but-for i (Some j) ≡ granted → j .0 ≡ i .0
+but-for-same i j h = go (eqb (j .0) (i .0)) refl h
+  where
+    go : (b : Bool) → eqb (j .0) (i .0) ≡ b → cond b granted (Err (NotedElsewhere j)) ≡ granted → j .0 ≡ i .0
+    go true e h = eqb-true (j .0) (i .0) e
+    go false e h = let z : _≡_ {A = ℕ} 0 1 = cc in omega arith
+
+-- an element after a write is the written one or as it was
+set-either : {X : Type 0} (xs : List X) (k : ℕ) (v d : X) (i : ℕ) → ((i ≡ k) × (getD (set xs k v) i d ≡ v)) ⊎ (getD (set xs k v) i d ≡ getD xs i d)
+set-either [] k v d i = inr refl
+set-either (x ∷ xs) zero v d zero = inl (refl, refl)
+set-either (x ∷ xs) zero v d (suc i) = inr refl
+set-either (x ∷ xs) (suc k) v d zero = inr refl
+set-either (x ∷ xs) (suc k) v d (suc i) = elim (set-either xs k v d i) [ inl p ↦ inl (ap suc (p .0), p .1) | inr p ↦ inr p ]
 
 module _ (euis : List Eui64) where
   -- who is seated stands at the place, and is not nobody
@@ -74,3 +93,33 @@ module _ (euis : List Eui64) where
 
   pub found-is : Apart euis → (e : Eui64) (o : Option NodeId) → Finds (seated euis) e o → o ≡ local-of (seated euis) e
   found-is w e o f = finds-local-of (seated euis) e (seated-apart w e) o f
+
+  -- a write of an EUI-64 that stands nowhere else
+  apart-set : Apart euis → (k : ℕ) (e : Eui64) → ((j : ℕ) → place euis j ≡ e → none-eui e ≡ false → j ≡ k) → Apart (set euis k e)
+  apart-set w k e only i j h =
+      elim (set-either euis k e nobody i) [
+        | inl p ↦ elim (set-either euis k e nobody j) [
+          | inl q ↦ p .0 ∙ sym (q .0)
+          | inr q ↦ p .0 ∙ sym (only j (sym q ∙ sym (h .0) ∙ p .1) (sym (ap none-eui (p .1)) ∙ h .1))
+        ]
+        | inr p ↦ elim (set-either euis k e nobody j) [
+          | inl q ↦ only i (sym p ∙ h .0 ∙ q .1) (sym (ap none-eui (h .0 ∙ q .1)) ∙ h .1) ∙ sym (q .0)
+          | inr q ↦ w i j (sym p ∙ h .0 ∙ q, sym (ap none-eui p) ∙ h .1)
+        ]
+      ]
+
+  only-seat : Apart euis → length euis ≡ 63 → (e : Eui64) (i : NodeId) (o : Option NodeId) → Finds (seated euis) e o → but-for i o ≡ granted
+      → (k : ℕ) → place euis k ≡ e → none-eui e ≡ false → k ≡ i .0 - 0xFFC0
+  only-seat w size e i o f free k p n = go o f free (cases-lt k 63)
+    where
+      go : (o : Option NodeId) → Finds (seated euis) e o → but-for i o ≡ granted → (k < 63) ⊎ (63 ≤ k) → k ≡ i .0 - 0xFFC0
+      go (Some j) f free (inl h) =
+          let same : node (0xFFC0 + k) ≡ j = seated-apart w e (node (0xFFC0 + k)) j (finds-at k e h p n) f in
+          let number : 0xFFC0 + k ≡ j .0 = ap (λ m. m .0) same in
+          let here = but-for-same i j free in
+          omega arith
+      go None f free (inl h) = absurd (f (node (0xFFC0 + k)) (finds-at k e h p n))
+      go o f free (inr h) = absurd (both-ways (none-eui e) n (sym (ap none-eui (sym (getD-past euis k nobody (omega arith)) ∙ p))))
+
+  pub apart-seat : Apart euis → length euis ≡ 63 → (e : Eui64) (i : NodeId) → but-for i (local-of (seated euis) e) ≡ granted → Apart (set euis (i .0 - 0xFFC0) e)
+  apart-seat w size e i free = apart-set w (i .0 - 0xFFC0) e (only-seat w size e i (local-of (seated euis) e) (local-of-finds (seated euis) e) free)

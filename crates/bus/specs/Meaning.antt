@@ -21,6 +21,9 @@ somebody e = cond (none-eui e) None (Some e)
 abbrev pub Answer : Type 0
 Answer = Result (Unit {0}) Refusal
 
+abbrev pub granted : Answer
+granted = Ok tt
+
 -- what there is after a note: a refused one changes nothing
 abbrev pub if-granted : {X : Type 0} → Answer → X → X → X
 if-granted (Ok done) new old = new

@@ -7,12 +7,12 @@ use lib.Dec.{eqb}
 use lib.ListN.{getD, set}
 use Rattle.std.specs.declared.option.Option.{Option}
 use Rattle.std.specs.declared.option.Option.the-variants.{Some, None}
-use Rattle.std.specs.declared.result.Result.the-variants.{Ok, Err}
+use Rattle.std.specs.declared.result.Result.the-variants.{Err}
 use Rattle.reader.specs.declared.ids.NodeId.{NodeId}
 use Rattle.reader.specs.declared.ids.Eui64.{Eui64}
 use Rattle.reader.specs.declared.refusal.Refusal.the-variants.{OutOfRange, NotedElsewhere}
 use Rattle.reader.specs.Ids.{local, none-eui}
-use Rattle.bus.specs.Meaning.{Answer, nobody, somebody, if-granted}
+use Rattle.bus.specs.Meaning.{Answer, granted, nobody, somebody, if-granted}
 use Rattle.bus.specs.Finding.{local-of}
 
 -- who stands at place k, which is that of FFC0h + k
@@ -29,8 +29,8 @@ seated euis i = cond (local i) (somebody (place euis (i .0 - 0xFFC0))) None
 
 -- an EUI-64 may sit down where it sits already
 abbrev pub but-for : NodeId → Option NodeId → Answer
-but-for i None = Ok tt
-but-for i (Some j) = cond (eqb (j .0) (i .0)) (Ok tt) (Err (NotedElsewhere j))
+but-for i None = granted
+but-for i (Some j) = cond (eqb (j .0) (i .0)) granted (Err (NotedElsewhere j))
 
 -- the answer to one who would sit down at a node ID: it must be local, and the only one
 abbrev pub seat-answer : List Eui64 → NodeId → Eui64 → Answer

@@ -4,7 +4,7 @@ ghost use Prim.Native.Nat.{ℕ, _-_};
 ghost use lib.ListN.{length, replicate};
 ghost use Rattle.bus.specs.Meaning.{nobody};
 ghost use Rattle.bus.specs.Finding.{Finds, local-of};
-ghost use Rattle.bus.specs.Places.{Apart, seated, seat-answer, seat-after};
+ghost use Rattle.bus.specs.Places.{Apart, seated, but-for, seat-answer, seat-after};
 use crate::somebody;
 use reader::ids::Eui64;
 use reader::ids::Eui64PartialEq;
@@ -37,7 +37,7 @@ impl Places {
         if !node.is_local() {
             return None;
         }
-        somebody(self.euis[usize::from(node.0 - FIRST)])
+        somebody(self.euis[(node.0 - FIRST) as usize])
     }
 
     pub fn find(&self, eui: Eui64) -> Option<NodeId>
@@ -53,5 +53,27 @@ impl Places {
             }
         }
         None
+    }
+
+    /// Seats an EUI-64 (all ones: nobody) at a local ID, unless it is seated at another.
+    pub fn seat(&mut self, node: NodeId, eui: Eui64) -> Result<(), Refusal>
+        ensures answer { λ r. ⌜ r ≡ seat-answer (now (self .entry) .euis) node eui ⌝ }
+        ensures after { λ _. ⌜ now (self .exit) .euis ≡ seat-after (now (self .entry) .euis) node eui ⌝ }
+    {
+        if !node.is_local() {
+            return Err(Refusal::OutOfRange(u64::from(node.0)));
+        }
+        self.seated_nowhere_but(node, eui)?;
+        self.euis[(node.0 - FIRST) as usize] = eui;
+        Ok(())
+    }
+
+    fn seated_nowhere_but(&self, node: NodeId, eui: Eui64) -> Result<(), Refusal>
+        ensures { λ r. ⌜ r ≡ but-for node (local-of (seated (now (self .entry) .euis)) eui) ⌝ }
+    {
+        match self.find(eui) {
+            Some(other) if other != node => Err(Refusal::NotedElsewhere(other)),
+            _ => Ok(()),
+        }
     }
 }
