@@ -2,3 +2,4 @@ pub mod Meaning
 pub mod Finding
 pub mod Harnesses
 pub mod Places
+pub mod LocalBuses

@@ -4,6 +4,7 @@ ghost use Rattle.bus.specs.Meaning.{BusModel, Lawful, somebody};
 ghost use Rattle.bus.specs.Finding.{Finds, local-of};
 
 pub mod harness;
+pub mod local;
 mod places;
 
 use reader::ids::Eui64;
