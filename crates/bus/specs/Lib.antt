@@ -3,3 +3,5 @@ pub mod Finding
 pub mod Harnesses
 pub mod Places
 pub mod LocalBuses
+pub mod GlobalTables
+pub mod Entries

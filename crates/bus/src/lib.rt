@@ -3,6 +3,8 @@ ghost use mathlib.Core.Path.{_≡_};
 ghost use Rattle.bus.specs.Meaning.{BusModel, Lawful, somebody};
 ghost use Rattle.bus.specs.Finding.{Finds, local-of};
 
+mod entries;
+mod globals;
 pub mod harness;
 pub mod local;
 mod places;
