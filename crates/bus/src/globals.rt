@@ -70,4 +70,17 @@ impl GlobalTable {
         self.count += 1;
         Ok(())
     }
+
+    /// Notes who is at a node ID (all ones: nobody), in place of what was noted there.
+    pub fn note(&mut self, node: NodeId, eui: Eui64) -> Result<(), Refusal>
+        ensures answer { λ r. ⌜ r ≡ list-answer (entries-of (now (self .entry))) node eui ⌝ }
+        ensures after { λ _. ⌜ entries-of (now (self .exit)) ≡ list-after (entries-of (now (self .entry))) node eui ⌝ }
+    {
+        let mut next = self.without(node);
+        if !eui.is_none() {
+            next.push(Entry { node, eui })?;
+        }
+        *self = next;
+        Ok(())
+    }
 }
