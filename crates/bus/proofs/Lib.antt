@@ -1,3 +1,4 @@
 pub mod Finding
 pub mod Seating
 pub mod LocalBuses
+pub mod Portals

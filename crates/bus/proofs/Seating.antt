@@ -32,7 +32,7 @@ apart-empty n i j h = absurd (both-ways (none-eui (place (replicate n nobody) i)
 pub none-some : {X : Type 0} (x : X) → None ≡ Some x → ⊥
 none-some x h = let z : _≡_ {A = ℕ} 0 1 = cc in omega arith
 
-somebody-is : (p e : Eui64) (b : Bool) → none-eui p ≡ b → cond b None (Some p) ≡ Some e → (p ≡ e) × (none-eui e ≡ false)
+pub somebody-is : (p e : Eui64) (b : Bool) → none-eui p ≡ b → cond b None (Some p) ≡ Some e → (p ≡ e) × (none-eui e ≡ false)
 somebody-is p e true k h = absurd (none-some e h)
 somebody-is p e false k h = let q : p ≡ e = cc in (q, sym (ap none-eui q) ∙ k)
 

@@ -5,3 +5,4 @@ pub mod Places
 pub mod LocalBuses
 pub mod GlobalTables
 pub mod Entries
+pub mod Portals

@@ -8,6 +8,7 @@ mod globals;
 pub mod harness;
 pub mod local;
 mod places;
+pub mod portal;
 
 use reader::ids::Eui64;
 use reader::ids::NodeId;
