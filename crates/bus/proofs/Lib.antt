@@ -2,3 +2,4 @@ pub mod Finding
 pub mod Seating
 pub mod LocalBuses
 pub mod Portals
+pub mod Topologies

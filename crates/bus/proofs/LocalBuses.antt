@@ -23,7 +23,7 @@ found-or-none : (shows : NodeId → Option Eui64) (e : Eui64) (o : Option NodeId
 found-or-none shows e (Some i) f = or-left (local i) (none-id i) (f .0)
 found-or-none shows e None f = refl
 
-seated-elsewhere : (euis : List Eui64) (i : NodeId) → local i ≡ false → seated euis i ≡ None
+pub seated-elsewhere : (euis : List Eui64) (i : NodeId) → local i ≡ false → seated euis i ≡ None
 seated-elsewhere euis i h = ap (λ b. cond b (somebody (place euis (i .0 - 0xFFC0))) None) h
 
 none-not-local : (i : NodeId) → none-id i ≡ true → local i ≡ false

@@ -32,12 +32,12 @@ none-not-global i h = grind (arith, tells)
 broadcast-not-global : (i : NodeId) → broadcast i ≡ true → global i ≡ false
 broadcast-not-global i h = grind (arith, tells)
 
-local-not-global : (i : NodeId) → local i ≡ true → global i ≡ false
+pub local-not-global : (i : NodeId) → local i ≡ true → global i ≡ false
 local-not-global i h = grind (arith, tells)
 
 module _ {B : Type 0} (m : BusModel B) (w : Lawful m) where
   -- at an ID that is not global it shows what the bus below shows
-  as-below : (p : Portal B) (i : NodeId) → global i ≡ false → portal-model m .shows p i ≡ m .shows (p .below) i
+  pub as-below : (p : Portal B) (i : NodeId) → global i ≡ false → portal-model m .shows p i ≡ m .shows (p .below) i
   as-below p i h = ap (λ b. cond b (or-else (listed (portal-tables p .shown) i) (m .shows (p .below) i)) (m .shows (p .below) i)) h
 
   real : (p : Portal B) (i : NodeId) (e : Eui64) (b : Bool) (o : Option Eui64) → listed (portal-tables p .shown) i ≡ o → cond b (or-else o (m .shows (p .below) i)) (m .shows (p .below) i) ≡ Some e → none-eui e ≡ false
@@ -51,7 +51,7 @@ module _ {B : Type 0} (m : BusModel B) (w : Lawful m) where
     pub own-below : m .own (q .below) ≡ m .own (p .below)
     pub shown-below : m .shows (q .below) ≡ m .shows (p .below)
 
-  unseen : (p q : Portal B) (i : NodeId) (e : Option Eui64) (a : Answer) → portal-model m .Notes p i e a q → Unseen p q
+  pub unseen : (p q : Portal B) (i : NodeId) (e : Option Eui64) (a : Answer) → portal-model m .Notes p i e a q → Unseen p q
   unseen p q i e a n = go (global i) n
     where
       go : (b : Bool)

@@ -6,3 +6,4 @@ pub mod LocalBuses
 pub mod GlobalTables
 pub mod Entries
 pub mod Portals
+pub mod Topologies
