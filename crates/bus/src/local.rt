@@ -26,12 +26,6 @@ impl LocalBus {
             noted: Places::empty(),
         }
     }
-
-    fn settle(&mut self)
-        ensures { λ _. ⌜ local-model .Resets (now (self .entry)) (now (self .exit)) ⌝ }
-    {
-        self.shown = self.noted;
-    }
 }
 
 pub impl Bus for LocalBus as LocalBusBus {
@@ -50,11 +44,11 @@ pub impl Bus for LocalBus as LocalBusBus {
     }
 
     fn reset(&mut self) {
-        self.settle();
+        self.shown = self.noted;
     }
 
     fn net_update(&mut self) {
-        self.settle();
+        self.reset();
     }
 
     fn note(&mut self, node: NodeId, eui: Option<Eui64>) -> Result<(), Refusal> {
