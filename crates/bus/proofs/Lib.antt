@@ -3,3 +3,5 @@ pub mod Seating
 pub mod LocalBuses
 pub mod Portals
 pub mod Topologies
+pub mod LocalFollows
+pub mod PortalFollows

@@ -7,3 +7,4 @@ pub mod GlobalTables
 pub mod Entries
 pub mod Portals
 pub mod Topologies
+pub mod Following

@@ -4,6 +4,8 @@ ghost use mathlib.Core.Bool.{cond};
 ghost use Rattle.std.specs.declared.option.Option.the-variants.{None};
 ghost use Rattle.reader.specs.Ids.{local};
 ghost use Rattle.bus.specs.Meaning.{somebody};
+ghost use Rattle.bus.specs.LocalBuses.{local-model};
+ghost use Rattle.bus.specs.Following.{Follows, Portal-follows, local-next};
 ghost use Rattle.bus.specs.Topologies.{Shown-after-reset};
 use crate::Bus;
 use crate::local::LocalBus;
@@ -28,4 +30,18 @@ pub fn shown_on_a_new_bus(own: Eui64, node: NodeId, eui: Eui64) -> Option<Eui64>
 {
     let mut bus = Portal::new(LocalBus::new(own));
     shown_after_reset(&mut bus, node, Some(eui))
+}
+
+/// What is noted on a local bus comes true: the law stands in the contract, and what is returned says nothing.
+pub fn local_bus_follows_notes() -> u8
+    ensures { λ _. ⌜ Follows local-model local-next ⌝ }
+{
+    0
+}
+
+/// The same of a portal, wherever it is so of the bus below.
+pub fn portal_follows_notes<B: Bus>() -> u8
+    ensures { λ _. ⌜ Portal-follows (B·Bus .model) ⌝ }
+{
+    0
 }
