@@ -5,9 +5,8 @@ use mathlib.Core.List.{List}
 use mathlib.Core.Logic.{_≢_}
 use Prim.Native.Nat.{ℕ, _-_, _<_}
 use native.Mathlib.Omega.{arith}
-use lib.ListN.{set, getD, length}
+use lib.ListN.{set, length}
 use Rattle.std.proofs.shelf.Lists.{getD-set-same, getD-set-other}
-use Rattle.std.specs.declared.option.Option.{Option}
 use Rattle.std.specs.declared.option.Option.the-variants.{Some, None}
 use Rattle.std.specs.declared.result.Result.the-variants.{Ok, Err}
 use Rattle.std.specs.Options.{valueOr}
@@ -15,7 +14,7 @@ use Rattle.reader.specs.declared.ids.NodeId.{NodeId}
 use Rattle.reader.specs.declared.ids.Eui64.{Eui64}
 use Rattle.reader.specs.declared.refusal.Refusal.{Refusal}
 use Rattle.reader.specs.declared.refusal.Refusal.the-variants.{OutOfRange}
-use Rattle.reader.specs.Ids.{local, none-eui}
+use Rattle.reader.specs.Ids.{local}
 use Rattle.bus.specs.Meaning.{Answer, granted, nobody, somebody, if-granted}
 use Rattle.bus.specs.Finding.{local-of}
 use Rattle.bus.specs.Places.{place, seated, but-for, seat-answer, seat-after}

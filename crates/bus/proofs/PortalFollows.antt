@@ -2,10 +2,8 @@
 use mathlib.Core.Path.{_≡_, refl, sym, _∙_, ap}
 use mathlib.Core.Bool.{Bool, true, false, cond, not}
 use mathlib.Core.List.{List, [], _∷_, _++_}
-use native.Mathlib.Omega.{arith}
-use Prim.Native.Nat.{ℕ}
 use lib.Dec.{eqb}
-use Rattle.std.proofs.shelf.Tests.{both-ways, eqb-true, ne-eqb, eq-eqb}
+use Rattle.std.proofs.shelf.Tests.{eqb-true, ne-eqb, eq-eqb}
 use Rattle.std.proofs.shelf.Ways.{when-false}
 use Rattle.std.specs.declared.option.Option.{Option}
 use Rattle.std.specs.declared.option.Option.the-variants.{Some, None}
@@ -15,7 +13,7 @@ use Rattle.std.specs.Orderings.{When}
 use Rattle.reader.specs.declared.ids.NodeId.{NodeId}
 use Rattle.reader.specs.declared.ids.Eui64.{Eui64}
 use Rattle.reader.specs.declared.refusal.Refusal.{Refusal}
-use Rattle.reader.specs.Ids.{local, global, none-eui}
+use Rattle.reader.specs.Ids.{global, none-eui}
 use Rattle.bus.specs.declared.entries.Entry.{Entry}
 use Rattle.bus.specs.declared.portal.Portal.{Portal}
 use Rattle.bus.specs.Meaning.{BusModel, Answer, granted, nobody, somebody, if-granted}

@@ -15,7 +15,7 @@ use Rattle.bus.specs.declared.entries.Entry.{Entry}
 use Rattle.bus.specs.declared.portal.Portal.{Portal}
 use Rattle.bus.specs.Meaning.{BusModel, Lawful, Answer, somebody}
 use Rattle.bus.specs.GlobalTables.{listed}
-use Rattle.bus.specs.Portals.{PortalTables, portal-tables, or-else, portal-shows, portal-answer, portal-noted, portal-model}
+use Rattle.bus.specs.Portals.{portal-tables, or-else, portal-shows, portal-answer, portal-noted, portal-model}
 use Rattle.bus.proofs.Seating.{none-some, somebody-is}
 
 listed-real : (es : List Entry) (i : NodeId) (e : Eui64) → listed es i ≡ Some e → none-eui e ≡ false

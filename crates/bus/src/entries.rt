@@ -1,6 +1,6 @@
 // The entries of a table of global IDs. The functions on them stand apart, with the definitions that name this type.
 ghost use mathlib.Core.Path.{_≡_};
-ghost use Prim.Native.Nat.{ℕ, _≤_};
+ghost use Prim.Native.Nat.{_≤_};
 ghost use lib.ListN.{length};
 ghost use Rattle.bus.specs.GlobalTables.{table-size};
 use reader::ids::Eui64;

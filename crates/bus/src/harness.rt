@@ -1,6 +1,6 @@
 // A bus for tests of what stands above: it always shows the same nodes.
 ghost use mathlib.Core.Path.{_≡_};
-ghost use Prim.Native.Nat.{ℕ, _+_, _≤_, _^_};
+ghost use Prim.Native.Nat.{_+_, _≤_, _^_};
 ghost use Rattle.bus.specs.Harnesses.{harness-shows, no-harness, fixed-model};
 ghost use Rattle.std.specs.Results.{Cases};
 ghost use Rattle.std.specs.declared.option.Option.the-variants.{Some, None};

@@ -1,6 +1,6 @@
 // The places of a local bus, one for each of the 63 local IDs.
 ghost use mathlib.Core.Path.{_≡_};
-ghost use Prim.Native.Nat.{ℕ, _-_};
+ghost use Prim.Native.Nat.{_-_};
 ghost use lib.ListN.{length, replicate};
 ghost use Rattle.bus.specs.Meaning.{nobody};
 ghost use Rattle.bus.specs.Finding.{Finds, local-of};

@@ -1,4 +1,4 @@
-use mathlib.Core.Path.{_≡_, ap, _∙_}
+use mathlib.Core.Path.{ap, _∙_}
 use Rattle.bus.specs.LocalBuses.{local-tables}
 use Rattle.bus.proofs.Topologies.{shown-first}
 use Rattle.bus.proofs.topology.shown_on_a_new_bus.Needs as need

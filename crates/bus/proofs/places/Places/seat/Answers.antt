@@ -1,4 +1,3 @@
-use mathlib.Core.Path.{sym}
 use borrow.Author.Needs.{needs}
 use Rattle.bus.proofs.Seating.{apart-seat}
 use Rattle.bus.proofs.places.Places.seat.Needs as need
