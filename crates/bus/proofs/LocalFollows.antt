@@ -17,7 +17,7 @@ use Rattle.reader.specs.declared.refusal.Refusal.the-variants.{OutOfRange}
 use Rattle.reader.specs.Ids.{local}
 use Rattle.bus.specs.Meaning.{Answer, granted, nobody, somebody, if-granted}
 use Rattle.bus.specs.Finding.{local-of}
-use Rattle.bus.specs.Places.{place, seated, but-for, seat-answer, seat-after}
+use Rattle.bus.specs.Places.{place, seated, unless-elsewhere, seat-answer, seat-after}
 use Rattle.bus.specs.LocalBuses.{local-model}
 use Rattle.bus.specs.Following.{Follows, local-next}
 use Rattle.bus.proofs.Seating.{local-place}
@@ -26,7 +26,7 @@ module _ (euis : List Eui64) (i : NodeId) (e : Eui64) where
   granted-local : seat-answer euis i e ≡ granted → local i ≡ true
   granted-local h = go (local i) h
     where
-      go : (b : Bool) → cond b (but-for i (local-of (seated euis) e)) (Err (OutOfRange (i .0))) ≡ granted → b ≡ true
+      go : (b : Bool) → cond b (unless-elsewhere i (local-of (seated euis) e)) (Err (OutOfRange (i .0))) ≡ granted → b ≡ true
       go true h = refl
       go false h = let z : _≡_ {A = ℕ} 0 1 = cc in absurd (omega arith)
 

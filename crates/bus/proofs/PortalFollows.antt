@@ -17,7 +17,7 @@ use Rattle.reader.specs.Ids.{global, none-eui}
 use Rattle.bus.specs.declared.entries.Entry.{Entry}
 use Rattle.bus.specs.declared.portal.Portal.{Portal}
 use Rattle.bus.specs.Meaning.{BusModel, Answer, granted, nobody, somebody, if-granted}
-use Rattle.bus.specs.GlobalTables.{listed, others, entry, list-answer, list-after}
+use Rattle.bus.specs.GlobalTables.{listed, others, entry, table-answer, table-after}
 use Rattle.bus.specs.Portals.{portal-tables, or-else, portal-shows, portal-answer, portal-noted, portal-model}
 use Rattle.bus.specs.Following.{Follows, portal-next}
 use Rattle.bus.proofs.Portals.{local-not-global}
@@ -58,18 +58,18 @@ module _ (es : List Entry) (i : NodeId) (e : Eui64) where
       go true = refl
       go false = ap (λ b. cond b (somebody e) None) (ne-eqb (i .0) (j .0) (λ h. other (sym h)))
 
-  listed-there : list-answer es i e ≡ granted → listed (list-after es i e) i ≡ somebody e
+  listed-there : table-answer es i e ≡ granted → listed (table-after es i e) i ≡ somebody e
   listed-there h = ap (λ a. listed (if-granted a (others es i ++ entry i e) es) i) h ∙ others-pass i (entry i e) es ∙ entry-here
 
-  listed-elsewhere : (j : NodeId) → (j .0 ≡ i .0 → ⊥) → listed (list-after es i e) j ≡ listed es j
-  listed-elsewhere j other = go (list-answer es i e)
+  listed-elsewhere : (j : NodeId) → (j .0 ≡ i .0 → ⊥) → listed (table-after es i e) j ≡ listed es j
+  listed-elsewhere j other = go (table-answer es i e)
     where
       go : (a : Answer) → listed (if-granted a (others es i ++ entry i e) es) j ≡ listed es j
       go (Ok done) = others-keep i (entry i e) j other (entry-elsewhere j other) es
       go (Err r) = refl
 
-  list-refused : (r : Refusal) → list-answer es i e ≡ Err r → list-after es i e ≡ es
-  list-refused r h = ap (λ a. if-granted a (others es i ++ entry i e) es) h
+  table-refused : (r : Refusal) → table-answer es i e ≡ Err r → table-after es i e ≡ es
+  table-refused r h = ap (λ a. if-granted a (others es i ++ entry i e) es) h
 
 module _ {B : Type 0} (m : BusModel B) (next : B → NodeId → Option Eui64) (f : Follows m next) where
   -- what a note is at a portal: its own, or one of the bus below
@@ -102,7 +102,7 @@ module _ {B : Type 0} (m : BusModel B) (next : B → NodeId → Option Eui64) (f
 
   refused-next : (p q : Portal B) (i : NodeId) (e : Option Eui64) (r : Refusal) (b : Bool) → Noted b p i e (Err r) q → portal-next next q ≡ portal-next next p
   refused-next p q i e r true n =
-      same-next p q (ap (λ t. t .noted) (n .2) ∙ list-refused (portal-tables p .noted) i (valueOr e nobody) r (sym (n .1))) (ap next (n .0))
+      same-next p q (ap (λ t. t .noted) (n .2) ∙ table-refused (portal-tables p .noted) i (valueOr e nobody) r (sym (n .1))) (ap next (n .0))
   refused-next p q i e r false n = same-next p q (ap (λ t. t .noted) (n .1)) (f .refused-note (p .below) (q .below) i e r (n .0))
 
   pub portal-follows : Follows (portal-model m) (portal-next next)

@@ -18,7 +18,7 @@ use Rattle.reader.specs.declared.refusal.Refusal.the-variants.{NotedElsewhere}
 use Rattle.reader.specs.Ids.{local, none-eui}
 use Rattle.bus.specs.Meaning.{granted, nobody, somebody}
 use Rattle.bus.specs.Finding.{Finds, node, local-of}
-use Rattle.bus.specs.Places.{place, Apart, seated, but-for}
+use Rattle.bus.specs.Places.{place, Apart, seated, unless-elsewhere}
 use Rattle.bus.proofs.Finding.{local-of-finds, finds-local-of}
 
 place-empty : (n k : ℕ) → place (replicate n nobody) k ≡ nobody
@@ -45,8 +45,8 @@ local-place i h =
     (omega arith, omega arith)
 
 -- who may sit down where one sits already sits there
-but-for-same : (i j : NodeId) → but-for i (Some j) ≡ granted → j .0 ≡ i .0
-but-for-same i j h = go (eqb (j .0) (i .0)) refl h
+unless-elsewhere-same : (i j : NodeId) → unless-elsewhere i (Some j) ≡ granted → j .0 ≡ i .0
+unless-elsewhere-same i j h = go (eqb (j .0) (i .0)) refl h
   where
     go : (b : Bool) → eqb (j .0) (i .0) ≡ b → cond b granted (Err (NotedElsewhere j)) ≡ granted → j .0 ≡ i .0
     go true e h = eqb-true (j .0) (i .0) e
@@ -108,18 +108,18 @@ module _ (euis : List Eui64) where
         ]
       ]
 
-  only-seat : Apart euis → length euis ≡ 63 → (e : Eui64) (i : NodeId) (o : Option NodeId) → Finds (seated euis) e o → but-for i o ≡ granted
+  only-seat : Apart euis → length euis ≡ 63 → (e : Eui64) (i : NodeId) (o : Option NodeId) → Finds (seated euis) e o → unless-elsewhere i o ≡ granted
       → (k : ℕ) → place euis k ≡ e → none-eui e ≡ false → k ≡ i .0 - 0xFFC0
   only-seat w size e i o f free k p n = go o f free (cases-lt k 63)
     where
-      go : (o : Option NodeId) → Finds (seated euis) e o → but-for i o ≡ granted → (k < 63) ⊎ (63 ≤ k) → k ≡ i .0 - 0xFFC0
+      go : (o : Option NodeId) → Finds (seated euis) e o → unless-elsewhere i o ≡ granted → (k < 63) ⊎ (63 ≤ k) → k ≡ i .0 - 0xFFC0
       go (Some j) f free (inl h) =
           let same : node (0xFFC0 + k) ≡ j = seated-apart w e (node (0xFFC0 + k)) j (finds-at k e h p n) f in
           let number : 0xFFC0 + k ≡ j .0 = ap (λ m. m .0) same in
-          let here = but-for-same i j free in
+          let here = unless-elsewhere-same i j free in
           omega arith
       go None f free (inl h) = absurd (f (node (0xFFC0 + k)) (finds-at k e h p n))
       go o f free (inr h) = absurd (both-ways (none-eui e) n (sym (ap none-eui (sym (getD-past euis k nobody (omega arith)) ∙ p))))
 
-  pub apart-seat : Apart euis → length euis ≡ 63 → (e : Eui64) (i : NodeId) → but-for i (local-of (seated euis) e) ≡ granted → Apart (set euis (i .0 - 0xFFC0) e)
+  pub apart-seat : Apart euis → length euis ≡ 63 → (e : Eui64) (i : NodeId) → unless-elsewhere i (local-of (seated euis) e) ≡ granted → Apart (set euis (i .0 - 0xFFC0) e)
   apart-seat w size e i free = apart-set w (i .0 - 0xFFC0) e (only-seat w size e i (local-of (seated euis) e) (local-of-finds (seated euis) e) free)

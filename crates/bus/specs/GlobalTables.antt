@@ -33,13 +33,13 @@ abbrev pub push-answer : List Entry → Answer
 push-answer es = cond (ltb (length es) table-size) granted (Err (TableFull table-size))
 
 -- a note of nobody needs no place; any other needs one beside the entries for other node IDs
-abbrev pub list-answer : List Entry → NodeId → Eui64 → Answer
-list-answer es i e = cond (none-eui e) granted (push-answer (others es i))
+abbrev pub table-answer : List Entry → NodeId → Eui64 → Answer
+table-answer es i e = cond (none-eui e) granted (push-answer (others es i))
 
 -- the entry that a note leaves: none where nobody is noted
 abbrev pub entry : NodeId → Eui64 → List Entry
 entry i e = cond (none-eui e) [] (record { node = i; eui = e } ∷ [])
 
 -- the table after a note
-abbrev pub list-after : List Entry → NodeId → Eui64 → List Entry
-list-after es i e = if-granted (list-answer es i e) (others es i ++ entry i e) es
+abbrev pub table-after : List Entry → NodeId → Eui64 → List Entry
+table-after es i e = if-granted (table-answer es i e) (others es i ++ entry i e) es

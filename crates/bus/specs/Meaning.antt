@@ -38,7 +38,7 @@ pub record BusModel (B : Type 0) : Type 1 where
   pub Updates : B → B → Type 0
   pub Notes : B → NodeId → Option Eui64 → Answer → B → Type 0
 
--- What every bus owes. A node ID has 16 bits; numbers above show what the model likes within these laws.
+-- What every bus owes. Node IDs have 16 bits; at larger numbers, which no code meets, the laws bind the model just the same.
 pub record Lawful {B : Type 0} (m : BusModel B) : Type 0 where
   pub own-is-local-or-none : (b : B) → (local (m .own b) || none-id (m .own b)) ≡ true
   pub none-shows-nobody : (b : B) (i : NodeId) → none-id i ≡ true → m .shows b i ≡ None

@@ -27,14 +27,14 @@ Apart euis = (i j : ℕ) → (place euis i ≡ place euis j) × (none-eui (place
 abbrev pub seated : List Eui64 → NodeId → Option Eui64
 seated euis i = cond (local i) (somebody (place euis (i .0 - 0xFFC0))) None
 
--- an EUI-64 may sit down where it sits already
-abbrev pub but-for : NodeId → Option NodeId → Answer
-but-for i None = granted
-but-for i (Some j) = cond (eqb (j .0) (i .0)) granted (Err (NotedElsewhere j))
+-- an EUI-64 that is seated at another node ID is refused with that one
+abbrev pub unless-elsewhere : NodeId → Option NodeId → Answer
+unless-elsewhere i None = granted
+unless-elsewhere i (Some j) = cond (eqb (j .0) (i .0)) granted (Err (NotedElsewhere j))
 
--- the answer to one who would sit down at a node ID: it must be local, and the only one
+-- the answer to an EUI-64 that is to be seated at a node ID, which must be local
 abbrev pub seat-answer : List Eui64 → NodeId → Eui64 → Answer
-seat-answer euis i e = cond (local i) (but-for i (local-of (seated euis) e)) (Err (OutOfRange (i .0)))
+seat-answer euis i e = cond (local i) (unless-elsewhere i (local-of (seated euis) e)) (Err (OutOfRange (i .0)))
 
 -- the places after it
 abbrev pub seat-after : List Eui64 → NodeId → Eui64 → List Eui64

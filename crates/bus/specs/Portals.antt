@@ -13,7 +13,7 @@ use Rattle.bus.specs.declared.entries.Entry.{Entry}
 use Rattle.bus.specs.declared.portal.Portal.{Portal}
 use Rattle.bus.specs.Meaning.{BusModel, Answer, nobody}
 use Rattle.bus.specs.Entries.{entries-of}
-use Rattle.bus.specs.GlobalTables.{listed, list-answer, list-after}
+use Rattle.bus.specs.GlobalTables.{listed, table-answer, table-after}
 
 -- the global IDs that it adds now, and those noted for the next net update
 pub record PortalTables : Type 0 where
@@ -42,10 +42,10 @@ portal-updated t = record { shown = t .noted; noted = t .noted }
 
 -- a note of a global ID is for the next net update
 abbrev pub portal-answer : PortalTables → NodeId → Option Eui64 → Answer
-portal-answer t i e = list-answer (t .noted) i (valueOr e nobody)
+portal-answer t i e = table-answer (t .noted) i (valueOr e nobody)
 
 abbrev pub portal-noted : PortalTables → NodeId → Option Eui64 → PortalTables
-portal-noted t i e = record { shown = t .shown; noted = list-after (t .noted) i (valueOr e nobody) }
+portal-noted t i e = record { shown = t .shown; noted = table-after (t .noted) i (valueOr e nobody) }
 
 -- resets, net updates and all other notes go below
 abbrev pub portal-model : {B : Type 0} → BusModel B → BusModel (Portal B)

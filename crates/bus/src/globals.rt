@@ -3,7 +3,7 @@ ghost use mathlib.Core.Path.{_≡_};
 ghost use mathlib.Core.List.{[], _∷_, _++_};
 ghost use Rattle.bus.specs.Meaning.{if-granted};
 ghost use Rattle.bus.specs.Entries.{entries-of};
-ghost use Rattle.bus.specs.GlobalTables.{listed, others, push-answer, list-answer, list-after};
+ghost use Rattle.bus.specs.GlobalTables.{listed, others, push-answer, table-answer, table-after};
 use crate::entries::Entry;
 use crate::entries::GlobalTable;
 use crate::entries::SIZE;
@@ -73,8 +73,8 @@ impl GlobalTable {
 
     /// Notes who is at a node ID (all ones: nobody), in place of what was noted there.
     pub fn note(&mut self, node: NodeId, eui: Eui64) -> Result<(), Refusal>
-        ensures answer { λ r. ⌜ r ≡ list-answer (entries-of (now (self .entry))) node eui ⌝ }
-        ensures after { λ _. ⌜ entries-of (now (self .exit)) ≡ list-after (entries-of (now (self .entry))) node eui ⌝ }
+        ensures answer { λ r. ⌜ r ≡ table-answer (entries-of (now (self .entry))) node eui ⌝ }
+        ensures after { λ _. ⌜ entries-of (now (self .exit)) ≡ table-after (entries-of (now (self .entry))) node eui ⌝ }
     {
         let mut next = self.without(node);
         if !eui.is_none() {

@@ -25,6 +25,7 @@ impl Harness {
         if count < 1 || count > 63 {
             return Err(Refusal::OutOfRange(u64::from(count)));
         }
+        // the highest base is 2^64 - 65
         if base > u64::MAX - 64 {
             return Err(Refusal::OutOfRange(base));
         }

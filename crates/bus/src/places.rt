@@ -4,7 +4,7 @@ ghost use Prim.Native.Nat.{_-_};
 ghost use lib.ListN.{length, replicate};
 ghost use Rattle.bus.specs.Meaning.{nobody};
 ghost use Rattle.bus.specs.Finding.{Finds, local-of};
-ghost use Rattle.bus.specs.Places.{Apart, seated, but-for, seat-answer, seat-after};
+ghost use Rattle.bus.specs.Places.{Apart, seated, unless-elsewhere, seat-answer, seat-after};
 use crate::somebody;
 use reader::ids::Eui64;
 use reader::ids::Eui64PartialEq;
@@ -69,7 +69,7 @@ impl Places {
     }
 
     fn seated_nowhere_but(&self, node: NodeId, eui: Eui64) -> Result<(), Refusal>
-        ensures { λ r. ⌜ r ≡ but-for node (local-of (seated (now (self .entry) .euis)) eui) ⌝ }
+        ensures { λ r. ⌜ r ≡ unless-elsewhere node (local-of (seated (now (self .entry) .euis)) eui) ⌝ }
     {
         match self.find(eui) {
             Some(other) if other != node => Err(Refusal::NotedElsewhere(other)),

@@ -1,3 +1,4 @@
+-- An answer that is right is the value, since local IDs show apart.
 use Rattle.bus.proofs.Finding.{finds-local-of}
 use Rattle.bus.proofs.local_id.Needs as need
 

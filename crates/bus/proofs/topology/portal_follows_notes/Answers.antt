@@ -1,3 +1,4 @@
+-- The law of a portal's notes.
 use Rattle.bus.proofs.PortalFollows.{portal-follows}
 use Rattle.bus.proofs.topology.portal_follows_notes.Needs as need
 

@@ -1,3 +1,4 @@
+-- The story at a portal on a new local bus, from the contracts alone.
 use mathlib.Core.Path.{ap, _∙_}
 use Rattle.bus.specs.LocalBuses.{local-tables}
 use Rattle.bus.proofs.Topologies.{shown-first}

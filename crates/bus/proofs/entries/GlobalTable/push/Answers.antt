@@ -1,3 +1,4 @@
+-- The written entry is one more in use.
 use native.Mathlib.Omega.{arith}
 use borrow.Author.Needs.{needs}
 use Rattle.std.proofs.shelf.Lists.{length-take-le, take-more-set}

@@ -1,3 +1,4 @@
+-- What is left of the table gives the answer.
 use mathlib.Core.Path.{_≡_}
 use lib.ListN.{drop}
 use Rattle.bus.specs.GlobalTables.{listed}

@@ -1,3 +1,4 @@
+-- An entry for another node ID is put behind those kept, and any other is passed over.
 use mathlib.Core.Path.{_≡_}
 use mathlib.Core.Bool.{Bool, true, false, not}
 use mathlib.Core.List.{List, append-nil}

@@ -1,3 +1,4 @@
+-- The entries passed so far, but for the node ID's, stand in front.
 use mathlib.Core.Path.{_≡_}
 use Prim.Native.Nat.{_≤_}
 use lib.ListN.{take, length}

@@ -1,3 +1,4 @@
+-- A local bus keeps the laws.
 use Rattle.bus.proofs.LocalBuses.{local-lawful}
 use Rattle.bus.proofs.local.LocalBusBus.the-impl.Needs as need
 

@@ -1,3 +1,4 @@
+-- Empty places are apart.
 use mathlib.Core.Path.{refl}
 use Rattle.bus.proofs.Seating.{apart-empty}
 use Rattle.bus.proofs.places.Places.empty.Needs as need

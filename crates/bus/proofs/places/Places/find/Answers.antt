@@ -1,3 +1,4 @@
+-- The answer is right, and so it is the value.
 use mathlib.Core.Path.{_≡_, sym}
 use native.Mathlib.Omega.{arith}
 use borrow.Author.Needs.{needs}

@@ -1,3 +1,4 @@
+-- The places passed so far do not have it.
 use Prim.Native.Nat.{ℕ, _<_}
 use mathlib.Core.Path.{_≡_}
 use Rattle.bus.specs.Places.{place}

@@ -1,3 +1,4 @@
+-- The places stay apart.
 use borrow.Author.Needs.{needs}
 use Rattle.bus.proofs.Seating.{apart-seat}
 use Rattle.bus.proofs.places.Places.seat.Needs as need

@@ -1,3 +1,4 @@
+-- Within the places the default of a read does not matter.
 use borrow.Author.Needs.{needs}
 use Rattle.std.proofs.shelf.Lists.{getD-default}
 use Rattle.bus.proofs.places.Places.who.Needs as need

@@ -1,3 +1,4 @@
+-- A portal keeps the laws since the bus below does.
 use Rattle.bus.proofs.Portals.{portal-lawful}
 use Rattle.bus.proofs.portal.PortalBus.the-impl.Needs as need
 
