@@ -4,7 +4,7 @@ use mathlib.Core.Bool.{Bool, true, false, cond, not}
 use mathlib.Core.List.{List, [], _∷_, _++_}
 use lib.Dec.{eqb}
 use Rattle.std.proofs.shelf.Tests.{eqb-true, ne-eqb, eq-eqb}
-use Rattle.std.proofs.shelf.Ways.{when-false}
+use Rattle.std.proofs.shelf.Ways.{when-true, when-false}
 use Rattle.std.specs.declared.option.Option.{Option}
 use Rattle.std.specs.declared.option.Option.the-variants.{Some, None}
 use Rattle.std.specs.declared.result.Result.the-variants.{Ok, Err}
@@ -17,9 +17,9 @@ use Rattle.reader.specs.Ids.{global, none-eui}
 use Rattle.bus.specs.declared.entries.Entry.{Entry}
 use Rattle.bus.specs.declared.portal.Portal.{Portal}
 use Rattle.bus.specs.Meaning.{BusModel, Answer, granted, nobody, somebody, if-granted}
-use Rattle.bus.specs.GlobalTables.{listed, others, entry, table-answer, table-after}
+use Rattle.bus.specs.GlobalTables.{listed, others, entry, push-answer, table-answer, table-after}
 use Rattle.bus.specs.Portals.{portal-tables, or-else, portal-shows, portal-answer, portal-noted, portal-model}
-use Rattle.bus.specs.Following.{Follows, portal-next}
+use Rattle.bus.specs.Following.{Follows, Portal-follows, portal-next}
 use Rattle.bus.proofs.Portals.{local-not-global}
 
 -- the entries for other IDs have nobody at this one, and are as they were at the others
@@ -105,8 +105,8 @@ module _ {B : Type 0} (m : BusModel B) (next : B → NodeId → Option Eui64) (f
       same-next p q (ap (λ t. t .noted) (n .2) ∙ table-refused (portal-tables p .noted) i (valueOr e nobody) r (sym (n .1))) (ap next (n .0))
   refused-next p q i e r false n = same-next p q (ap (λ t. t .noted) (n .1)) (f .refused-note (p .below) (q .below) i e r (n .0))
 
-  pub portal-follows : Follows (portal-model m) (portal-next next)
-  portal-follows = record {
+  follows : Follows (portal-model m) (portal-next next)
+  follows = record {
     update-shows-next = λ p q u.
         ap (λ t. portal-shows (t .shown) (m .shows (q .below))) (u .1) ∙ ap (λ below. portal-shows (portal-tables p .noted) below) (f .update-shows-next (p .below) (q .below) (u .0));
     reset-shows-next = λ p q r i here.
@@ -124,3 +124,19 @@ module _ {B : Type 0} (m : BusModel B) (next : B → NodeId → Option Eui64) (f
         ap (λ o. cond (global j) (or-else o (next (q .below) j)) (next (q .below) j)) (same .0) ∙ ap (λ o. next-at (global j) (portal-tables p .noted) o j) (same .1);
     refused-note = λ p q i e r n. refused-next p q i e r (global i) n;
   }
+
+  taken-out : (p q : Portal B) (i : NodeId) (e : Option Eui64) (a : Answer)
+      → portal-model m .Notes p i e a q → global i ≡ true → none-eui (valueOr e nobody) ≡ true → (a ≡ granted) × (portal-next next q i ≡ next (q .below) i)
+  taken-out p q i e a n far none =
+      let es = portal-tables p .noted in
+      let own = when-true _ _ far n in
+      let ok : table-answer es i (valueOr e nobody) ≡ granted = ap (λ b. cond b granted (push-answer (others es i))) none in
+      let gone = listed-there es i (valueOr e nobody) ok ∙ ap (λ b. cond b None (Some (valueOr e nobody))) none in (
+        own .1 ∙ ok,
+        ap (λ b. next-at b (portal-tables q .noted) (next (q .below) i) i) far
+            ∙ ap (λ t. or-else (listed (t .noted) i) (next (q .below) i)) (own .2)
+            ∙ ap (λ o. or-else o (next (q .below) i)) gone,
+      )
+
+  pub portal-follows : Portal-follows m next
+  portal-follows = record { notes = follows; taken-out = taken-out }

@@ -4,13 +4,14 @@ use mathlib.Core.Bool.{true, false}
 use Rattle.std.specs.declared.option.Option.{Option}
 use Rattle.std.specs.declared.option.Option.the-variants.{Some, None}
 use Rattle.std.specs.declared.result.Result.the-variants.{Err}
+use Rattle.std.specs.Options.{valueOr}
 use Rattle.reader.specs.declared.ids.NodeId.{NodeId}
 use Rattle.reader.specs.declared.ids.Eui64.{Eui64}
 use Rattle.reader.specs.declared.refusal.Refusal.{Refusal}
-use Rattle.reader.specs.Ids.{local, none-eui}
+use Rattle.reader.specs.Ids.{local, global, none-eui}
 use Rattle.bus.specs.declared.local.LocalBus.{LocalBus}
 use Rattle.bus.specs.declared.portal.Portal.{Portal}
-use Rattle.bus.specs.Meaning.{BusModel, Answer, granted}
+use Rattle.bus.specs.Meaning.{BusModel, Answer, granted, nobody}
 use Rattle.bus.specs.Places.{seated}
 use Rattle.bus.specs.Portals.{portal-tables, portal-shows, portal-model}
 
@@ -33,6 +34,11 @@ local-next b = seated (b .noted .euis)
 abbrev pub portal-next : {B : Type 0} → (B → NodeId → Option Eui64) → Portal B → NodeId → Option Eui64
 portal-next next p = portal-shows (portal-tables p .noted) (next (p .below))
 
--- a portal on a bus that follows its notes follows its own and those below
-abbrev pub Portal-follows : {B : Type 0} → BusModel B → Type 0
-Portal-follows {B} m = (next : B → NodeId → Option Eui64) → Follows m next → Follows (portal-model m) (portal-next next)
+-- a portal on a bus that follows its notes follows its own and those below; nobody noted at a global ID leaves it to the bus below
+pub record Portal-follows {B : Type 0} (m : BusModel B) (next : B → NodeId → Option Eui64) : Type 0 where
+  pub notes : Follows (portal-model m) (portal-next next)
+  pub taken-out : (p q : Portal B) (i : NodeId) (e : Option Eui64) (a : Answer)
+      → portal-model m .Notes p i e a q → global i ≡ true → none-eui (valueOr e nobody) ≡ true → (a ≡ granted) × (portal-next next q i ≡ next (q .below) i)
+
+abbrev pub Portals-follow : {B : Type 0} → BusModel B → Type 0
+Portals-follow {B} m = (next : B → NodeId → Option Eui64) → Follows m next → Portal-follows m next

@@ -5,7 +5,7 @@ ghost use Rattle.std.specs.declared.option.Option.the-variants.{None};
 ghost use Rattle.reader.specs.Ids.{local};
 ghost use Rattle.bus.specs.Meaning.{somebody};
 ghost use Rattle.bus.specs.LocalBuses.{local-model};
-ghost use Rattle.bus.specs.Following.{Follows, Portal-follows, local-next};
+ghost use Rattle.bus.specs.Following.{Follows, Portals-follow, local-next};
 ghost use Rattle.bus.specs.Topologies.{Shown-after-reset};
 use crate::Bus;
 use crate::local::LocalBus;
@@ -41,7 +41,7 @@ pub fn local_bus_follows_notes() -> u8
 
 /// The same of a portal, wherever it is so of the bus below.
 pub fn portal_follows_notes<B: Bus>() -> u8
-    ensures { λ _. ⌜ Portal-follows (B·Bus .model) ⌝ }
+    ensures { λ _. ⌜ Portals-follow (B·Bus .model) ⌝ }
 {
     0
 }
