@@ -11,7 +11,7 @@ use Rattle.std.specs.declared.option.Option.the-variants.{Some, None}
 use Rattle.reader.specs.declared.ids.NodeId.{NodeId}
 use Rattle.reader.specs.declared.ids.Eui64.{Eui64}
 use Rattle.reader.specs.Ids.{local}
-use Rattle.bus.specs.Finding.{Finds, node, is-shown, first-from, local-of}
+use Rattle.bus.specs.Finding.{Finds, node-id, is-shown, first-from, local-of}
 
 is-shown-some : (o : Option Eui64) (eui : Eui64) → is-shown o eui ≡ true → o ≡ Some eui
 is-shown-some (Some e) eui h = ap (λ n. Some (record { 0 = n })) (eqb-true (e .0) (eui .0) h)
@@ -24,20 +24,20 @@ module _ (shows : NodeId → Option Eui64) (eui : Eui64) where
   -- what the search through `count` node IDs from `i` on comes to
   abbrev Found : ℕ → ℕ → Option NodeId → Type 0
   Found i count (Some j) = (i ≤ j .0) × (j .0 < i + count) × (shows j ≡ Some eui)
-  Found i count None = (j : ℕ) → i ≤ j → j < i + count → shows (node j) ≡ Some eui → ⊥
+  Found i count None = (j : ℕ) → i ≤ j → j < i + count → shows (node-id j) ≡ Some eui → ⊥
 
-  passed : (i count : ℕ) (o : Option NodeId) → (shows (node i) ≡ Some eui → ⊥) → Found (suc i) count o → Found i (suc count) o
+  passed : (i count : ℕ) (o : Option NodeId) → (shows (node-id i) ≡ Some eui → ⊥) → Found (suc i) count o → Found i (suc count) o
   passed i count (Some j) h f = (omega arith, omega arith, f .2)
-  passed i count None h f = λ j l u e. elim (cases-eq i j) [ inl p ↦ h (ap (λ n. shows (node n)) p ∙ e) | inr p ↦ f j (omega arith) (omega arith) e ]
+  passed i count None h f = λ j l u e. elim (cases-eq i j) [ inl p ↦ h (ap (λ n. shows (node-id n)) p ∙ e) | inr p ↦ f j (omega arith) (omega arith) e ]
 
-  one : (i count : ℕ) (o : Option NodeId) (b : Bool) → is-shown (shows (node i)) eui ≡ b → Found (suc i) count o → Found i (suc count) (cond b (Some (node i)) o)
-  one i count o true e f = (omega arith, omega arith, is-shown-some (shows (node i)) eui e)
-  one i count o false e f = passed i count o (is-shown-not (shows (node i)) eui e) f
+  one : (i count : ℕ) (o : Option NodeId) (b : Bool) → is-shown (shows (node-id i)) eui ≡ b → Found (suc i) count o → Found i (suc count) (cond b (Some (node-id i)) o)
+  one i count o true e f = (omega arith, omega arith, is-shown-some (shows (node-id i)) eui e)
+  one i count o false e f = passed i count o (is-shown-not (shows (node-id i)) eui e) f
 
   found : (i count : ℕ) → Found i count (first-from shows eui i count)
   unfolding first-from
   found i zero = λ j l u e. omega arith
-  found i (suc count) = one i count (first-from shows eui (suc i) count) (is-shown (shows (node i)) eui) refl (found (suc i) count)
+  found i (suc count) = one i count (first-from shows eui (suc i) count) (is-shown (shows (node-id i)) eui) refl (found (suc i) count)
 
   found-finds : (o : Option NodeId) → Found 0xFFC0 63 o → Finds shows eui o
   found-finds (Some j) f = (and-from (leb 0xFFC0 (j .0)) (ltb (j .0) 0xFFFF) (le-leb 0xFFC0 (j .0) (f .0)) (lt-ltb (j .0) 0xFFFF (omega arith)), f .2)

@@ -13,13 +13,13 @@ use Rattle.reader.specs.declared.ids.NodeId.{NodeId}
 use Rattle.reader.specs.declared.ids.Eui64.{Eui64}
 use Rattle.reader.specs.Ids.{local, none-id, broadcast, global}
 use Rattle.bus.specs.Meaning.{Lawful, somebody}
-use Rattle.bus.specs.Finding.{Finds, node, local-of}
+use Rattle.bus.specs.Finding.{Finds, node-id, local-of}
 use Rattle.bus.specs.Places.{place, seated}
 use Rattle.bus.specs.LocalBuses.{local-model}
 use Rattle.bus.proofs.Finding.{local-of-finds}
 use Rattle.bus.proofs.Seating.{seated-some, seated-apart}
 
-found-or-none : (shows : NodeId → Option Eui64) (e : Eui64) (o : Option NodeId) → Finds shows e o → (local (valueOr o (node 0xFFFF)) || none-id (valueOr o (node 0xFFFF))) ≡ true
+found-or-none : (shows : NodeId → Option Eui64) (e : Eui64) (o : Option NodeId) → Finds shows e o → (local (valueOr o (node-id 0xFFFF)) || none-id (valueOr o (node-id 0xFFFF))) ≡ true
 found-or-none shows e (Some i) f = or-left (local i) (none-id i) (f .0)
 found-or-none shows e None f = refl
 

@@ -17,7 +17,7 @@ use Rattle.reader.specs.Ids.{global, none-eui}
 use Rattle.bus.specs.declared.entries.Entry.{Entry}
 use Rattle.bus.specs.declared.portal.Portal.{Portal}
 use Rattle.bus.specs.Meaning.{BusModel, Answer, granted, nobody, somebody, if-granted}
-use Rattle.bus.specs.GlobalTables.{listed, others, entry, push-answer, table-answer, table-after}
+use Rattle.bus.specs.GlobalTables.{listed, others, new-entry, push-answer, table-answer, table-after}
 use Rattle.bus.specs.Portals.{portal-tables, or-else, portal-shows, portal-answer, portal-noted, portal-model}
 use Rattle.bus.specs.Following.{Follows, Portal-follows, portal-next}
 use Rattle.bus.proofs.Portals.{local-not-global}
@@ -44,14 +44,14 @@ module _ (i : NodeId) (more : List Entry) where
       go false e later = ap (λ o. cond (eqb (x .node .0) (j .0)) (somebody (x .eui)) o) later
 
 module _ (es : List Entry) (i : NodeId) (e : Eui64) where
-  entry-here : listed (entry i e) i ≡ somebody e
+  entry-here : listed (new-entry i e) i ≡ somebody e
   entry-here = go (none-eui e) refl
     where
       go : (b : Bool) → none-eui e ≡ b → listed (cond b [] (record { node = i; eui = e } ∷ [])) i ≡ cond b None (Some e)
       go true h = refl
       go false h = ap (λ b. cond b (somebody e) None) (eq-eqb (i .0) (i .0) refl) ∙ ap (λ b. cond b None (Some e)) h
 
-  entry-elsewhere : (j : NodeId) → (j .0 ≡ i .0 → ⊥) → listed (entry i e) j ≡ None
+  entry-elsewhere : (j : NodeId) → (j .0 ≡ i .0 → ⊥) → listed (new-entry i e) j ≡ None
   entry-elsewhere j other = go (none-eui e)
     where
       go : (b : Bool) → listed (cond b [] (record { node = i; eui = e } ∷ [])) j ≡ None
@@ -59,17 +59,17 @@ module _ (es : List Entry) (i : NodeId) (e : Eui64) where
       go false = ap (λ b. cond b (somebody e) None) (ne-eqb (i .0) (j .0) (λ h. other (sym h)))
 
   listed-there : table-answer es i e ≡ granted → listed (table-after es i e) i ≡ somebody e
-  listed-there h = ap (λ a. listed (if-granted a (others es i ++ entry i e) es) i) h ∙ others-pass i (entry i e) es ∙ entry-here
+  listed-there h = ap (λ a. listed (if-granted a (others es i ++ new-entry i e) es) i) h ∙ others-pass i (new-entry i e) es ∙ entry-here
 
   listed-elsewhere : (j : NodeId) → (j .0 ≡ i .0 → ⊥) → listed (table-after es i e) j ≡ listed es j
   listed-elsewhere j other = go (table-answer es i e)
     where
-      go : (a : Answer) → listed (if-granted a (others es i ++ entry i e) es) j ≡ listed es j
-      go (Ok done) = others-keep i (entry i e) j other (entry-elsewhere j other) es
+      go : (a : Answer) → listed (if-granted a (others es i ++ new-entry i e) es) j ≡ listed es j
+      go (Ok done) = others-keep i (new-entry i e) j other (entry-elsewhere j other) es
       go (Err r) = refl
 
   table-refused : (r : Refusal) → table-answer es i e ≡ Err r → table-after es i e ≡ es
-  table-refused r h = ap (λ a. if-granted a (others es i ++ entry i e) es) h
+  table-refused r h = ap (λ a. if-granted a (others es i ++ new-entry i e) es) h
 
 module _ {B : Type 0} (m : BusModel B) (next : B → NodeId → Option Eui64) (f : Follows m next) where
   -- what a note is at a portal: its own, or one of the bus below

@@ -17,7 +17,7 @@ use Rattle.reader.specs.declared.ids.Eui64.{Eui64}
 use Rattle.reader.specs.declared.refusal.Refusal.the-variants.{NotedElsewhere}
 use Rattle.reader.specs.Ids.{local, none-eui}
 use Rattle.bus.specs.Meaning.{granted, nobody, somebody}
-use Rattle.bus.specs.Finding.{Finds, node, local-of}
+use Rattle.bus.specs.Finding.{Finds, node-id, local-of}
 use Rattle.bus.specs.Places.{place, Apart, seated, unless-elsewhere}
 use Rattle.bus.proofs.Finding.{local-of-finds, finds-local-of}
 
@@ -69,9 +69,9 @@ module _ (euis : List Eui64) where
       go true m = somebody-is (place euis (i .0 - 0xFFC0)) e (none-eui (place euis (i .0 - 0xFFC0))) refl m
       go false m = absurd (none-some e m)
 
-  pub finds-at : (k : ℕ) (e : Eui64) → k < 63 → place euis k ≡ e → none-eui e ≡ false → Finds (seated euis) e (Some (node (0xFFC0 + k)))
+  pub finds-at : (k : ℕ) (e : Eui64) → k < 63 → place euis k ≡ e → none-eui e ≡ false → Finds (seated euis) e (Some (node-id (0xFFC0 + k)))
   finds-at k e h p n =
-      let here : local (node (0xFFC0 + k)) ≡ true = and-from (leb 0xFFC0 (0xFFC0 + k)) (ltb (0xFFC0 + k) 0xFFFF) (le-leb 0xFFC0 (0xFFC0 + k) (omega arith)) (lt-ltb (0xFFC0 + k) 0xFFFF (omega arith)) in
+      let here : local (node-id (0xFFC0 + k)) ≡ true = and-from (leb 0xFFC0 (0xFFC0 + k)) (ltb (0xFFC0 + k) 0xFFFF) (le-leb 0xFFC0 (0xFFC0 + k) (omega arith)) (lt-ltb (0xFFC0 + k) 0xFFFF (omega arith)) in
       let same : 0xFFC0 + k - 0xFFC0 ≡ k = omega arith in
       (here, simp (here, same, p, n))
 
@@ -89,7 +89,7 @@ module _ (euis : List Eui64) where
       let a = local-place i (f .0) in
       let b = local-place j (g .0) in
       let n : i .0 ≡ j .0 = omega arith in
-      ap node n
+      ap node-id n
 
   pub found-is : Apart euis → (e : Eui64) (o : Option NodeId) → Finds (seated euis) e o → o ≡ local-of (seated euis) e
   found-is w e o f = finds-local-of (seated euis) e (seated-apart w e) o f
@@ -114,11 +114,11 @@ module _ (euis : List Eui64) where
     where
       go : (o : Option NodeId) → Finds (seated euis) e o → unless-elsewhere i o ≡ granted → (k < 63) ⊎ (63 ≤ k) → k ≡ i .0 - 0xFFC0
       go (Some j) f free (inl h) =
-          let same : node (0xFFC0 + k) ≡ j = seated-apart w e (node (0xFFC0 + k)) j (finds-at k e h p n) f in
+          let same : node-id (0xFFC0 + k) ≡ j = seated-apart w e (node-id (0xFFC0 + k)) j (finds-at k e h p n) f in
           let number : 0xFFC0 + k ≡ j .0 = ap (λ m. m .0) same in
           let here = unless-elsewhere-same i j free in
           omega arith
-      go None f free (inl h) = absurd (f (node (0xFFC0 + k)) (finds-at k e h p n))
+      go None f free (inl h) = absurd (f (node-id (0xFFC0 + k)) (finds-at k e h p n))
       go o f free (inr h) = absurd (both-ways (none-eui e) n (sym (ap none-eui (sym (getD-past euis k nobody (omega arith)) ∙ p))))
 
   pub apart-seat : Apart euis → length euis ≡ 63 → (e : Eui64) (i : NodeId) → unless-elsewhere i (local-of (seated euis) e) ≡ granted → Apart (set euis (i .0 - 0xFFC0) e)

@@ -15,8 +15,8 @@ Finds shows eui (Some i) = (local i ≡ true) × (shows i ≡ Some eui)
 Finds shows eui None = (i : NodeId) → (local i ≡ true) × (shows i ≡ Some eui) → ⊥
 
 -- the node ID with this number
-abbrev pub node : ℕ → NodeId
-node n = record { 0 = n }
+abbrev pub node-id : ℕ → NodeId
+node-id n = record { 0 = n }
 
 -- whether it is this EUI-64 that is shown
 abbrev pub is-shown : Option Eui64 → Eui64 → Bool
@@ -26,7 +26,7 @@ is-shown None eui = false
 -- the first of `count` node IDs from `i` on that shows an EUI-64
 unfoldable pub first-from : (NodeId → Option Eui64) → Eui64 → ℕ → ℕ → Option NodeId
 first-from shows eui i zero = None
-first-from shows eui i (suc count) = cond (is-shown (shows (node i)) eui) (Some (node i)) (first-from shows eui (suc i) count)
+first-from shows eui i (suc count) = cond (is-shown (shows (node-id i)) eui) (Some (node-id i)) (first-from shows eui (suc i) count)
 
 -- the first local ID that shows an EUI-64; on a lawful bus it is the only one
 abbrev pub local-of : (NodeId → Option Eui64) → Eui64 → Option NodeId

@@ -1,4 +1,4 @@
--- What notes are for: they are the next topology, and last. Assumes nothing.
+-- What notes are for: they are the next topology, and stay noted when it has come. Assumes nothing.
 use mathlib.Core.Path.{_≡_}
 use mathlib.Core.Bool.{true, false}
 use Rattle.std.specs.declared.option.Option.{Option}

@@ -37,9 +37,9 @@ abbrev pub table-answer : List Entry → NodeId → Eui64 → Answer
 table-answer es i e = cond (none-eui e) granted (push-answer (others es i))
 
 -- the entry that a note leaves: none where nobody is noted
-abbrev pub entry : NodeId → Eui64 → List Entry
-entry i e = cond (none-eui e) [] (record { node = i; eui = e } ∷ [])
+abbrev pub new-entry : NodeId → Eui64 → List Entry
+new-entry i e = cond (none-eui e) [] (record { node = i; eui = e } ∷ [])
 
 -- the table after a note
 abbrev pub table-after : List Entry → NodeId → Eui64 → List Entry
-table-after es i e = if-granted (table-answer es i e) (others es i ++ entry i e) es
+table-after es i e = if-granted (table-answer es i e) (others es i ++ new-entry i e) es

@@ -11,7 +11,7 @@ use Rattle.reader.specs.declared.ids.Eui64.{Eui64}
 use Rattle.reader.specs.declared.refusal.Refusal.{Refusal}
 use Rattle.reader.specs.declared.refusal.Refusal.the-variants.{OutOfRange}
 use Rattle.bus.specs.Meaning.{BusModel}
-use Rattle.bus.specs.Finding.{node}
+use Rattle.bus.specs.Finding.{node-id}
 
 -- base + k at FFC0h + k, for k below count
 abbrev pub harness-shows : ℕ → ℕ → NodeId → Option Eui64
@@ -25,7 +25,7 @@ no-harness base count =
 -- a bus that is node FFC0h, never changes, and takes no note
 abbrev pub fixed-model : {B : Type 0} → (B → NodeId → Option Eui64) → BusModel B
 fixed-model shows = record {
-  own = λ b. node 0xFFC0;
+  own = λ b. node-id 0xFFC0;
   shows = shows;
   Resets = λ b c. c ≡ b;
   Updates = λ b c. c ≡ b;

@@ -8,7 +8,7 @@ use Rattle.reader.specs.declared.ids.NodeId.{NodeId}
 use Rattle.reader.specs.declared.ids.Eui64.{Eui64}
 use Rattle.bus.specs.declared.local.LocalBus.{LocalBus}
 use Rattle.bus.specs.Meaning.{BusModel, Answer, nobody}
-use Rattle.bus.specs.Finding.{node, local-of}
+use Rattle.bus.specs.Finding.{node-id, local-of}
 use Rattle.bus.specs.Places.{seated, seat-answer, seat-after}
 
 -- its own EUI-64, who is shown at the 63 places, and who is noted for the next topology
@@ -26,7 +26,7 @@ new-local eui = record { eui = eui; shown = replicate 63 nobody; noted = replica
 
 -- it stands where it shows its own EUI-64, and else nowhere
 abbrev pub local-own : LocalTables → NodeId
-local-own t = valueOr (local-of (seated (t .shown)) (t .eui)) (node 0xFFFF)
+local-own t = valueOr (local-of (seated (t .shown)) (t .eui)) (node-id 0xFFFF)
 
 -- after a reset or a net update it shows what is noted, and the notes last
 abbrev pub local-settled : LocalTables → LocalTables

@@ -1,4 +1,4 @@
-// A note, the reset that makes it true, and who is shown then: on any bus, and on one that is known.
+// Notes come true: on any bus by its model, on a known one by value, and as a law of local bus and portal.
 ghost use mathlib.Core.Path.{_≡_};
 ghost use mathlib.Core.Bool.{cond};
 ghost use Rattle.std.specs.declared.option.Option.the-variants.{None};
@@ -32,7 +32,7 @@ pub fn shown_on_a_new_bus(own: Eui64, node: NodeId, eui: Eui64) -> Option<Eui64>
     shown_after_reset(&mut bus, node, Some(eui))
 }
 
-/// What is noted on a local bus comes true: the law stands in the contract, and what is returned says nothing.
+/// What is noted on a local bus comes true. The contract is the law; the answer says nothing.
 pub fn local_bus_follows_notes() -> u8
     ensures { λ _. ⌜ Follows local-model local-next ⌝ }
 {

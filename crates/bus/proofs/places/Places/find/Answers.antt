@@ -5,7 +5,7 @@ use borrow.Author.Needs.{needs}
 use Prim.Native.Nat.{_+_}
 use Rattle.std.proofs.shelf.Lists.{getD-default}
 use Rattle.std.specs.declared.option.Option.the-variants.{Some, None}
-use Rattle.bus.specs.Finding.{node}
+use Rattle.bus.specs.Finding.{node-id}
 use Rattle.bus.specs.Places.{place}
 use Rattle.bus.proofs.Seating.{finds-at, finds-nowhere, finds-nobody, found-is}
 use Rattle.bus.proofs.places.Places.find.Needs as need
@@ -22,7 +22,7 @@ returns-then-eq c =
     let k = c .loop-k .k in
     let here : place (s .euis) k ≡ c .args .eui = search (needs, getD-default) in
     let f = finds-at (s .euis) k (c .args .eui) (c .loop-k-test .taken) here (sym (c .if-is-none .ensures tt)) in
-    record { finds = f; value = found-is (s .euis) (s .apart) (c .args .eui) (Some (node (0xFFC0 + k))) f }
+    record { finds = f; value = found-is (s .euis) (s .apart) (c .args .eui) (Some (node-id (0xFFC0 + k))) f }
 
 pub loop-k-again : need.loop-k-again
 loop-k-again c = search (needs, getD-default)
