@@ -32,16 +32,12 @@ pub fn shown_on_a_new_bus(own: Eui64, node: NodeId, eui: Eui64) -> Option<Eui64>
     shown_after_reset(&mut bus, node, Some(eui))
 }
 
-/// What is noted on a local bus comes true. The contract is the law; the answer says nothing.
-pub fn local_bus_follows_notes() -> u8
+/// What is noted on a local bus comes true. The contract is the law, and there is nothing to run.
+pub fn local_bus_follows_notes()
     ensures { λ _. ⌜ Follows local-model local-next ⌝ }
-{
-    0
-}
+{}
 
 /// The same of a portal, wherever it is so of the bus below.
-pub fn portal_follows_notes<B: Bus>() -> u8
+pub fn portal_follows_notes<B: Bus>()
     ensures { λ _. ⌜ Portals-follow (B·Bus .model) ⌝ }
-{
-    0
-}
+{}
