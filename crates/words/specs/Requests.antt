@@ -44,9 +44,9 @@ allocate-text q =
 unfoldable pub handle-text : Request → List ℕ
 handle-text q =
     cond (q .«exclusive_or_allocate») (allocate-text q) (
-        cond (eqb (q .«node_or_handle») 0xFFFF) (
-            codes "release all node handles but its own of login " ++ decimal (q .«unit_or_login_id»)
-        ) (codes "release node handle " ++ (decimal (q .«node_or_handle») ++ (codes " of login " ++ decimal (q .«unit_or_login_id»))))
+    cond (eqb (q .«node_or_handle») 0xFFFF) (
+    codes "release all node handles but its own of login " ++ decimal (q .«unit_or_login_id»)
+    ) (codes "release node handle " ++ (decimal (q .«node_or_handle») ++ (codes " of login " ++ decimal (q .«unit_or_login_id»))))
     )
 
 unfoldable pub function-text : Function → Request → List ℕ

@@ -38,7 +38,11 @@ fn also(applies: bool, word: &'static str) -> &'static str
 fn verb(update: bool) -> &'static str
     ensures { λ r. ⌜ now r ≡ verb-text update ⌝ }
 {
-    if update { "update login" } else { "login to unit" }
+    if update {
+        "update login"
+    } else {
+        "login to unit"
+    }
 }
 
 fn format(rq_fmt: u8) -> &'static str
@@ -62,7 +66,10 @@ impl fmt::Display for LoginWords as LoginWordsDisplay {
         let aware = also(self.0.aware, ", aware");
         let hold = self.0.hold();
         let length = self.0.response_length;
-        write!(f, "{verb} {number}{exclusive}{aware}, hold {hold}, length {length}")
+        write!(
+            f,
+            "{verb} {number}{exclusive}{aware}, hold {hold}, length {length}"
+        )
     }
 }
 
@@ -76,7 +83,10 @@ impl fmt::Display for HandleWords as HandleWordsDisplay {
             let eui_64 = self.0.eui_64;
             let node = NodeId(handle);
             let length = self.0.response_length;
-            return write!(f, "allocate a node handle to login {login}, {eui_64} at {node}, length {length}");
+            return write!(
+                f,
+                "allocate a node handle to login {login}, {eui_64} at {node}, length {length}"
+            );
         }
         if handle == 0xFFFF {
             return write!(f, "release all node handles but its own of login {login}");
