@@ -1,0 +1,10 @@
+pub mod Meaning
+pub mod Finding
+pub mod Harnesses
+pub mod Places
+pub mod LocalBuses
+pub mod GlobalTables
+pub mod Entries
+pub mod Portals
+pub mod Topologies
+pub mod Following
