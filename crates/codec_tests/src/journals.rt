@@ -30,18 +30,27 @@ fn is_whole(heap: Global, bytes: &[u8], records: usize) -> Result<(), Fail> {
     check(count == records && refusal.is_none())
 }
 
+fn pair_note(eui_64: Eui64, unit: u16) -> Record<'static> {
+    Record::PairNote {
+        eui_64,
+        unit,
+        admitted: true,
+    }
+}
+
+fn bus_note(node: NodeId, eui_64: Eui64) -> Record<'static> {
+    Record::BusNote { node, eui_64 }
+}
+
+fn gap() -> Record<'static> {
+    Record::Gap
+}
+
 #[test]
 fn numbers_are_written_in_groups_of_seven_bits(rt: LibcRuntime) -> Result<(), Fail> {
     let mut records = Vec::new(rt.alloc());
-    records.push(Record::PairNote {
-        eui_64: Eui64(10),
-        unit: 300,
-        admitted: true,
-    })?;
-    records.push(Record::BusNote {
-        node: NodeId(0xFFC2),
-        eui_64: Eui64(1),
-    })?;
+    records.push(pair_note(Eui64(10), 300))?;
+    records.push(bus_note(NodeId(0xFFC2), Eui64(1)))?;
     let mut area = [0xAA; 12];
     check(matches!(write_journal(records.as_slice(), &mut area), Ok(10)))?;
     check(area == [8, 10, 0xAC, 2, 1, 7, 0xC2, 0xFF, 3, 1, 0xAA, 0xAA])
@@ -184,11 +193,8 @@ fn a_journal_has_at_most_65536_bytes(rt: LibcRuntime) -> Result<(), Fail> {
 #[test]
 fn a_journal_is_written_whole_or_not_at_all(rt: LibcRuntime) -> Result<(), Fail> {
     let mut records = Vec::new(rt.alloc());
-    records.push(Record::Gap)?;
-    records.push(Record::BusNote {
-        node: NodeId(300),
-        eui_64: Eui64::NONE,
-    })?;
+    records.push(gap())?;
+    records.push(bus_note(NodeId(300), Eui64::NONE))?;
     check(journal_len(records.as_slice()) == 14)?;
     let mut short = [0xAA; 13];
     check(matches!(
