@@ -9,11 +9,12 @@ use lib.Dec.{eqb, ltb}
 use lib.ListN.{length, getD, take, drop}
 use Rattle.std.proofs.shelf.Lists.{append-assoc, take-at, drop-at, length-append, take-append-drop, length-take-le, getD-append-add}
 use Rattle.std.proofs.shelf.Tests.{cases-lt, cases-eq, eq-eqb, ne-eqb, le-ltb, lt-ltb, cond-true, cond-false}
+use Rattle.std.specs.shelf.Lists.{All}
 use Rattle.std.specs.declared.option.Option.{Option}
 use Rattle.std.specs.declared.option.Option.the-variants.{Some, None}
 use Rattle.journal.specs.Numbers.{code}
 use Rattle.journal.specs.Entries.{Entry, request, bus-reset, net-update, gap, tick, access-change, bus-note, pair-note, stop-note, entry-code, mark, Within, Entry-at, No-entry}
-use Rattle.journal.specs.Reading.{number-at, found, after, met, id, eui, orb-at, request-at, bus-note-at, pair-note-at, stop-note-at, entry-at}
+use Rattle.journal.specs.Reading.{number-at, found, after, met, id, eui, orb-at, request-at, bus-note-at, pair-note-at, stop-note-at, Reader, readers, by-kind, entry-at}
 use Rattle.journal.proofs.Finding.{Bytes, Number, number-sound, number-complete, found-same}
 
 -- a reader goes on behind a number that stands there
@@ -176,57 +177,35 @@ module _ (bs : List ℕ) (e : Entry) (rest : List ℕ) (h : Bytes bs) where
       ))
       (y .there .fits)
 
--- one of two, by a kind
-pick : {X : Type 0} (k j : ℕ) (x y z : X) → cond (eqb k j) x y ≡ z → ((k ≡ j) × (x ≡ z)) ⊎ (y ≡ z)
-pick k j x y z q =
-    elim (cases-eq k j) [
-      | inl e ↦ inl (e, sym (cond-true (eqb k j) x y (eq-eqb k j e)) ∙ q)
-      | inr n ↦ inr (sym (cond-false (eqb k j) x y (ne-eqb k j n)) ∙ q)
+-- behind its kind byte a reader finds only what stands there
+abbrev Right : ℕ × Reader → Type 0
+Right r = (bs : List ℕ) (e : Entry) (rest : List ℕ) → Bytes bs → r .1 bs ≡ met e rest → Entry-at (r .0 ∷ bs) e rest
+
+plain : (k : ℕ) (d : Entry) → entry-code d ≡ k ∷ [] → Within d → Right (k, met d)
+plain k d is w bs e rest h q = made (k ∷ bs) d e bs rest q (ap (λ (z : List ℕ). z ++ bs) (sym is)) w
+
+by-kind-sound : (rs : List (ℕ × Reader)) → All Right rs → (k : ℕ) (bs : List ℕ) (e : Entry) (rest : List ℕ) → Bytes bs → by-kind rs k bs ≡ met e rest → Entry-at (k ∷ bs) e rest
+by-kind-sound [] right k bs e rest h q = absurd (let z : _≡_ {A = ℕ} 0 1 = cc in omega arith)
+by-kind-sound (r ∷ rs) right k bs e rest h q =
+    elim (cases-eq k (r .0)) [
+      | inl y ↦
+          subst (λ (i : ℕ). Entry-at (i ∷ bs) e rest) (sym y) (
+          right .0 bs e rest h (sym (cond-true (eqb k (r .0)) (r .1 bs) (by-kind rs k bs) (eq-eqb k (r .0) y)) ∙ q)
+          )
+      | inr n ↦ by-kind-sound rs (right .1) k bs e rest h (sym (cond-false (eqb k (r .0)) (r .1 bs) (by-kind rs k bs) (ne-eqb k (r .0) n)) ∙ q)
     ]
+
+readers-right : All Right readers
+readers-right = (
+  request-sound,
+  (plain 2 bus-reset refl tt, (plain 3 net-update refl tt, (plain 4 gap refl tt, (plain 5 tick refl tt, (plain 6 access-change refl tt, (bus-note-sound, (pair-note-sound, (stop-note-sound, tt)))))))),
+)
 
 -- what a reader finds stands there
 pub entry-sound : (bs : List ℕ) (e : Entry) (rest : List ℕ) → Bytes bs → entry-at bs ≡ met e rest → Entry-at bs e rest
 unfolding entry-at
 entry-sound [] e rest h q = absurd (let z : _≡_ {A = ℕ} 0 1 = cc in omega arith)
-entry-sound (k ∷ bs) e rest h q =
-    let of-kind : (j : ℕ) → k ≡ j → Entry-at (j ∷ bs) e rest → Entry-at (k ∷ bs) e rest = λ j y a. subst (λ (i : ℕ). Entry-at (i ∷ bs) e rest) (sym y) a in
-    elim (pick k 1 _ _ _ (q)) [
-      | inl w ↦ of-kind 1 (w .0) (request-sound bs e rest (λ k. h (suc k)) (w .1))
-      | inr v ↦
-          elim (pick k 2 _ _ _ v) [
-            | inl w ↦ of-kind 2 (w .0) (made (2 ∷ bs) bus-reset e bs rest (w .1) refl tt)
-            | inr v ↦
-                elim (pick k 3 _ _ _ v) [
-                  | inl w ↦ of-kind 3 (w .0) (made (3 ∷ bs) net-update e bs rest (w .1) refl tt)
-                  | inr v ↦
-                      elim (pick k 4 _ _ _ v) [
-                        | inl w ↦ of-kind 4 (w .0) (made (4 ∷ bs) gap e bs rest (w .1) refl tt)
-                        | inr v ↦
-                            elim (pick k 5 _ _ _ v) [
-                              | inl w ↦ of-kind 5 (w .0) (made (5 ∷ bs) tick e bs rest (w .1) refl tt)
-                              | inr v ↦
-                                  elim (pick k 6 _ _ _ v) [
-                                    | inl w ↦ of-kind 6 (w .0) (made (6 ∷ bs) access-change e bs rest (w .1) refl tt)
-                                    | inr v ↦
-                                        elim (pick k 7 _ _ _ v) [
-                                          | inl w ↦ of-kind 7 (w .0) (bus-note-sound bs e rest (λ k. h (suc k)) (w .1))
-                                          | inr v ↦
-                                              elim (pick k 8 _ _ _ v) [
-                                                | inl w ↦ of-kind 8 (w .0) (pair-note-sound bs e rest (λ k. h (suc k)) (w .1))
-                                                | inr v ↦
-                                                    elim (pick k 9 _ _ _ v) [
-                                                      | inl w ↦ of-kind 9 (w .0) (stop-note-sound bs e rest (λ k. h (suc k)) (w .1))
-                                                      | inr v ↦
-                                                          absurd (let z : _≡_ {A = ℕ} 0 1 = cc in omega arith)
-                                                    ]
-                                              ]
-                                        ]
-                                  ]
-                            ]
-                      ]
-                ]
-          ]
-    ]
+entry-sound (k ∷ bs) e rest h q = by-kind-sound readers readers-right k bs e rest (λ i. h (suc i)) q
 
 -- nothing is found where nothing stands
 pub entry-absent : (bs : List ℕ) → entry-at bs ≡ None → No-entry bs

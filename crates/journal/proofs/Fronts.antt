@@ -10,10 +10,10 @@ use lib.Pow.{pow-mono, pow-add}
 use Rattle.std.proofs.shelf.Lists.{nil-from-length}
 use Rattle.std.proofs.shelf.Parts.{first-rest}
 use Rattle.std.proofs.shelf.Tests.{lt-ltb, le-ltb, le-leb, lt-leb, ne-eqb, cond-true, cond-false}
+use Rattle.std.specs.shelf.Lists.{All}
 use Rattle.std.specs.declared.option.Option.{Option}
 use Rattle.std.specs.declared.option.Option.the-variants.{Some, None}
-use Rattle.journal.specs.Entries.{Entry}
-use Rattle.journal.specs.Reading.{number-at, above, found, entry-at}
+use Rattle.journal.specs.Reading.{number-at, above, found, Reader, readers, by-kind, entry-at}
 
 pub at-none : (bits : ℕ) (bs : List ℕ) → length bs < 1 → number-at bits bs ≡ None
 unfolding number-at
@@ -55,20 +55,18 @@ pub entry-none : (bs : List ℕ) → length bs < 1 → entry-at bs ≡ None
 unfolding entry-at
 entry-none bs h = let z : length bs ≡ 0 = omega arith in ap entry-at (nil-from-length bs z)
 
+-- a kind that no reader has
+unread : (rs : List (ℕ × Reader)) (k : ℕ) (bs : List ℕ) → All (λ r. k ≡ r .0 → ⊥) rs → by-kind rs k bs ≡ None
+unread [] k bs other = refl
+unread (r ∷ rs) k bs other =
+    cond-false (eqb k (r .0)) (r .1 bs) (by-kind rs k bs) (ne-eqb k (r .0) (other .0)) ∙ unread rs k bs (other .1)
+
 -- no kind but 1 to 9
 pub kind-unknown : (bs : List ℕ) → 1 ≤ length bs → ((j : ℕ) → 1 ≤ j → j ≤ 9 → getD bs 0 0 ≡ j → ⊥) → entry-at bs ≡ None
 unfolding entry-at
 kind-unknown bs h other =
-    let k : ℕ = getD bs 0 0 in
-    let past : (j : ℕ) (x y : Option (Entry × List ℕ)) → 1 ≤ j → j ≤ 9 → cond (eqb k j) x y ≡ y =
-    λ j x y a b. cond-false (eqb k j) x y (ne-eqb k j (other j a b)) in
     ap entry-at (front-of bs h)
-    ∙ past 1 _ _ (omega arith) (omega arith)
-    ∙ past 2 _ _ (omega arith) (omega arith)
-    ∙ past 3 _ _ (omega arith) (omega arith)
-    ∙ past 4 _ _ (omega arith) (omega arith)
-    ∙ past 5 _ _ (omega arith) (omega arith)
-    ∙ past 6 _ _ (omega arith) (omega arith)
-    ∙ past 7 _ _ (omega arith) (omega arith)
-    ∙ past 8 _ _ (omega arith) (omega arith)
-    ∙ past 9 _ _ (omega arith) (omega arith)
+    ∙ unread readers (getD bs 0 0) (take (length bs - 1) (drop 1 bs)) (
+      other 1 (omega arith) (omega arith),
+      (other 2 (omega arith) (omega arith), (other 3 (omega arith) (omega arith), (other 4 (omega arith) (omega arith), (other 5 (omega arith) (omega arith), (other 6 (omega arith) (omega arith), (other 7 (omega arith) (omega arith), (other 8 (omega arith) (omega arith), (other 9 (omega arith) (omega arith), tt)))))))),
+    )

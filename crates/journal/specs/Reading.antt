@@ -67,25 +67,32 @@ pair-note-at bs =
 abbrev pub stop-note-at : List ℕ → Option (Entry × List ℕ)
 stop-note-at bs = after (number-at 64 bs) (λ e rest. after (number-at 1 rest) (λ m. met (stop-note (eui e) (eqb m 1))))
 
+-- what goes on behind a kind byte
+abbrev pub Reader : Type 0
+Reader = List ℕ → Option (Entry × List ℕ)
+
+-- the kinds, and how each goes on
+abbrev pub readers : List (ℕ × Reader)
+readers =
+    (1, request-at)
+    ∷ (2, met bus-reset)
+    ∷ (3, met net-update)
+    ∷ (4, met gap)
+    ∷ (5, met tick)
+    ∷ (6, met access-change)
+    ∷ (7, bus-note-at)
+    ∷ (8, pair-note-at)
+    ∷ (9, stop-note-at)
+    ∷ []
+
+abbrev pub by-kind : List (ℕ × Reader) → ℕ → Reader
+by-kind [] k bs = None
+by-kind (r ∷ rs) k bs = cond (eqb k (r .0)) (r .1 bs) (by-kind rs k bs)
+
 -- the entry at the front, and the rest
-unfoldable pub entry-at : List ℕ → Option (Entry × List ℕ)
+unfoldable pub entry-at : Reader
 entry-at [] = None
-entry-at (k ∷ bs) =
-    cond (eqb k 1) (request-at bs) (
-    cond (eqb k 2) (met bus-reset bs) (
-    cond (eqb k 3) (met net-update bs) (
-    cond (eqb k 4) (met gap bs) (
-    cond (eqb k 5) (met tick bs) (
-    cond (eqb k 6) (met access-change bs) (
-    cond (eqb k 7) (bus-note-at bs) (
-    cond (eqb k 8) (pair-note-at bs) (cond (eqb k 9) (stop-note-at bs) None)
-    )
-    )
-    )
-    )
-    )
-    )
-    )
+entry-at (k ∷ bs) = by-kind readers k bs
 
 -- what the code hands over, without where its bytes lie
 abbrev pub entry-seen : Option (Record × RefT (List ℕ)) → Option (Entry × List ℕ)
