@@ -20,7 +20,7 @@ fn digit(value: u16) -> char
     requires { ⌜ value < 16 ⌝ }
     ensures { λ r. ⌜ encode r ≡ glyph true value ∷ [] ⌝ }
 {
-    let code = (value % 16) as u8;
+    let code = value as u8;
     if code < 10 {
         char::from(b'0' + code)
     } else {
