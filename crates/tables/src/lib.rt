@@ -1,0 +1,5 @@
+// The tables of a target: who is logged in, which node handles are given, and whose turn a place is.
+pub mod book;
+pub mod logins;
+pub mod rows;
+pub mod tables;
