@@ -2,3 +2,4 @@ pub mod Owners
 pub mod Logins
 pub mod Rows
 pub mod Books
+pub mod Searches

@@ -2,4 +2,5 @@
 pub mod book;
 pub mod logins;
 pub mod rows;
+pub mod searches;
 pub mod tables;

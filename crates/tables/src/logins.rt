@@ -2,12 +2,15 @@
 ghost use mathlib.Core.Bool.{true, false};
 ghost use mathlib.Core.Path.{_≡_};
 ghost use Rattle.std.specs.Options.{Cases};
+ghost use Rattle.tables.specs.Searches.{among};
 ghost use Rattle.tables.specs.Logins.{row-of, free-row, state, sound, holder, active, reserved, held-back, moved, ticked, row-after};
+use crate::rows::Holders;
 use crate::rows::Login;
 use crate::rows::LoginEvent;
 use crate::rows::LoginRow;
 use crate::rows::LoginState;
 use reader::ids::Eui64;
+use reader::ids::Eui64PartialEq;
 use reader::ids::NodeId;
 
 impl LoginRow {
@@ -78,6 +81,24 @@ impl Login {
             LoginState::Reserved
         } else {
             LoginState::Active
+        }
+    }
+
+    pub fn is_holder(self) -> bool
+        ensures { λ r. ⌜ r ≡ holder (row-of self) ⌝ }
+    {
+        !self.owner_eui_64.is_none()
+    }
+
+    /// Whether it is one of the holders that are meant.
+    pub fn is_among(self, holders: Holders) -> bool
+        ensures { λ r. ⌜ r ≡ among holders (row-of self) ⌝ }
+    {
+        match holders {
+            Holders::All => self.is_holder(),
+            Holders::OfUnit(unit) => self.is_holder() && self.unit == unit,
+            Holders::ExclusiveTo(unit) => self.is_holder() && self.unit == unit && self.exclusive,
+            Holders::Owning(eui_64, unit) => self.is_holder() && self.unit == unit && self.owner_eui_64 == eui_64,
         }
     }
 

@@ -60,3 +60,21 @@ pub struct Handle {
     pub node: NodeId,
     pub own: bool,
 }
+
+/// Which holders are meant.
+#[derive(Clone, Copy)]
+pub enum Holders {
+    All,
+    OfUnit(u16),
+    /// Those that claim the unit alone.
+    ExclusiveTo(u16),
+    /// The initiator's own of the unit.
+    Owning(Eui64, u16),
+}
+
+/// Which handle of a login is meant.
+#[derive(Clone, Copy)]
+pub enum WhichHandle {
+    For(Eui64),
+    Own,
+}
