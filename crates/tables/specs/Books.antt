@@ -25,11 +25,11 @@ book-of t =
 abbrev pub new-book : Book
 new-book =
     record {
-        logins = replicate logins-size free-row;
-        handles = replicate handles-size free-handle;
-        next-login = 0;
-        next-handle = 0;
-        ticking = false
+      logins = replicate logins-size free-row;
+      handles = replicate handles-size free-handle;
+      next-login = 0;
+      next-handle = 0;
+      ticking = false;
     }
 
 abbrev pub with-logins : Book → List LoginRow → Book

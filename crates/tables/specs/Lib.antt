@@ -3,3 +3,4 @@ pub mod Logins
 pub mod Rows
 pub mod Books
 pub mod Searches
+pub mod Events

@@ -26,28 +26,28 @@ nobody = record { 0 = 0xFFFF_FFFF_FFFF_FFFF }
 abbrev pub row-of : Login → LoginRow
 row-of l =
     record {
-        unit = l .unit;
-        «owner_id» = l .«owner_id»;
-        «owner_eui_64» = l .«owner_eui_64»;
-        «status_fifo» = l .«status_fifo»;
-        exclusive = l .exclusive;
-        aware = l .aware;
-        hold = l .hold;
-        «ticks_left» = l .«ticks_left»
+      unit = l .unit;
+      «owner_id» = l .«owner_id»;
+      «owner_eui_64» = l .«owner_eui_64»;
+      «status_fifo» = l .«status_fifo»;
+      exclusive = l .exclusive;
+      aware = l .aware;
+      hold = l .hold;
+      «ticks_left» = l .«ticks_left»;
     }
 
 -- a free login is as new: every field 0 or none
 abbrev pub free-row : LoginRow
 free-row =
     record {
-        unit = 0;
-        «owner_id» = nowhere;
-        «owner_eui_64» = nobody;
-        «status_fifo» = 0;
-        exclusive = false;
-        aware = false;
-        hold = 0;
-        «ticks_left» = 0
+      unit = 0;
+      «owner_id» = nowhere;
+      «owner_eui_64» = nobody;
+      «status_fifo» = 0;
+      exclusive = false;
+      aware = false;
+      hold = 0;
+      «ticks_left» = 0;
     }
 
 abbrev pub holder : LoginRow → Bool
@@ -70,14 +70,14 @@ sound r = (holder r || none-id (r .«owner_id»)) && (reserved r || eqb (r .«ti
 abbrev pub moved : LoginRow → NodeId → ℕ → LoginRow
 moved r id ticks =
     record {
-        unit = r .unit;
-        «owner_id» = id;
-        «owner_eui_64» = r .«owner_eui_64»;
-        «status_fifo» = r .«status_fifo»;
-        exclusive = r .exclusive;
-        aware = r .aware;
-        hold = r .hold;
-        «ticks_left» = ticks
+      unit = r .unit;
+      «owner_id» = id;
+      «owner_eui_64» = r .«owner_eui_64»;
+      «status_fifo» = r .«status_fifo»;
+      exclusive = r .exclusive;
+      aware = r .aware;
+      hold = r .hold;
+      «ticks_left» = ticks;
     }
 
 -- reserved for its owner: hold + 2 ticks from the first gap on

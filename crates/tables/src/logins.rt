@@ -98,7 +98,9 @@ impl Login {
             Holders::All => self.is_holder(),
             Holders::OfUnit(unit) => self.is_holder() && self.unit == unit,
             Holders::ExclusiveTo(unit) => self.is_holder() && self.unit == unit && self.exclusive,
-            Holders::Owning(eui_64, unit) => self.is_holder() && self.unit == unit && self.owner_eui_64 == eui_64,
+            Holders::Owning(eui_64, unit) => self.is_holder()
+                && self.unit == unit
+                && self.owner_eui_64 == eui_64,
         }
     }
 
@@ -111,7 +113,8 @@ impl Login {
             (LoginState::Reserved, LoginEvent::Reset(_)) => self.held_back(),
             (LoginState::Reserved | LoginState::Active, LoginEvent::NetUpdate) => self.held_back(),
             (LoginState::Reserved, LoginEvent::Tick) => self.ticked(),
-            (LoginState::Reserved | LoginState::Active, LoginEvent::Reconnect(source)) => self.moved(source),
+            (LoginState::Reserved | LoginState::Active, LoginEvent::Reconnect(source)) =>
+                self.moved(source),
             (LoginState::Active, LoginEvent::Reset(_)) if !self.aware => self.held_back(),
             (LoginState::Active, LoginEvent::Reset(_)) if !self.owner_id.is_local() => self,
             (LoginState::Active, LoginEvent::Reset(Some(found))) => self.moved(found),

@@ -78,3 +78,12 @@ pub enum WhichHandle {
     For(Eui64),
     Own,
 }
+
+/// Which handles are freed: those whose login has ended, those of a login, or those and where own ones go at a net update.
+#[derive(Clone, Copy)]
+pub enum HandleSweep {
+    Orphans,
+    AllOf(u16),
+    OthersOf(u16),
+    NetUpdated,
+}

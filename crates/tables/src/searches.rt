@@ -32,7 +32,7 @@ impl Handle {
 }
 
 // The place after one, going round.
-fn after(place: usize, size: usize) -> usize
+pub(crate) fn after(place: usize, size: usize) -> usize
     requires { ⌜ place < size ⌝ }
     ensures { λ r. ⌜ r ≡ after-place size place ⌝ }
 {
