@@ -64,11 +64,10 @@ impl Tables {
     pub fn handle(&self, place: usize) -> Handle
         ensures { λ r. ⌜ r ≡ handle-at (book-of (now (self .entry)) .handles) place ⌝ }
     {
-        if place < HANDLES {
-            self.handles[place]
-        } else {
-            Handle::free()
+        if place >= HANDLES {
+            return Handle::free();
         }
+        self.handles[place]
     }
 
     pub fn put_handle(&mut self, place: usize, handle: Handle)

@@ -1,9 +1,8 @@
-// One login: its state, its record, and what each event makes of it.
-ghost use mathlib.Core.Bool.{true, false};
+// One login: its state, its row, and what each event makes of it.
+ghost use mathlib.Core.Bool.{true};
 ghost use mathlib.Core.Path.{_≡_};
-ghost use Rattle.std.specs.Options.{Cases};
 ghost use Rattle.tables.specs.Searches.{among};
-ghost use Rattle.tables.specs.Logins.{row-of, free-row, state, sound, holder, active, reserved, held-back, moved, ticked, row-after};
+ghost use Rattle.tables.specs.Logins.{row-of, free-row, state, sound, holder, reserved, held-back, moved, ticked, row-after};
 use crate::rows::Holders;
 use crate::rows::Login;
 use crate::rows::LoginEvent;
@@ -12,31 +11,6 @@ use crate::rows::LoginState;
 use reader::ids::Eui64;
 use reader::ids::Eui64PartialEq;
 use reader::ids::NodeId;
-
-impl LoginRow {
-    /// The record of this row, if it is one.
-    pub fn check(self) -> Option<Login>
-        ensures { λ r. ⌜ Cases r (sound self ≡ false) (λ l. row-of l ≡ self) ⌝ }
-    {
-        if self.owner_eui_64.is_none() && !self.owner_id.is_none() {
-            return None;
-        }
-        let reserved = !self.owner_eui_64.is_none() && self.owner_id.is_none();
-        if !reserved && self.ticks_left != 0 {
-            return None;
-        }
-        Some(Login {
-            unit: self.unit,
-            owner_id: self.owner_id,
-            owner_eui_64: self.owner_eui_64,
-            status_fifo: self.status_fifo,
-            exclusive: self.exclusive,
-            aware: self.aware,
-            hold: self.hold,
-            ticks_left: self.ticks_left,
-        })
-    }
-}
 
 impl Login {
     /// A login as new.

@@ -4,8 +4,8 @@ use Rattle.std.proofs.shelf.Lists.{getD-default, getD-past}
 use Rattle.tables.specs.Rows.{free-handle}
 use Rattle.tables.proofs.tables.Tables.handle.Needs as need
 
-pub returns-then-place-lt-HANDLES : need.returns-then-place-lt-HANDLES
-returns-then-place-lt-HANDLES c = search (needs, getD-default)
+pub returns : need.returns
+returns c = search (needs, getD-default)
 
-pub returns-else-place-lt-HANDLES : need.returns-else-place-lt-HANDLES
-returns-else-place-lt-HANDLES c = c .free .ensures ∙ sym (getD-past (c .args .self .now .handles) (c .args .place) free-handle (search needs))
+pub returns-then-place-ge-HANDLES : need.returns-then-place-ge-HANDLES
+returns-then-place-ge-HANDLES c = c .free .ensures ∙ sym (getD-past (c .args .self .now .handles) (c .args .place) free-handle (search needs))
