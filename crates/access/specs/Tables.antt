@@ -7,7 +7,7 @@ use lib.ListN.{length}
 use Rattle.std.specs.shelf.Lists.{kept-by}
 use Rattle.std.specs.declared.option.Option.{Option}
 use Rattle.std.specs.declared.option.Option.the-variants.{Some, None}
-use Rattle.std.specs.declared.result.Result.the-variants.{Err}
+use Rattle.std.specs.declared.result.Result.the-variants.{Ok, Err}
 use Rattle.reader.specs.declared.refusal.Refusal.the-variants.{TableFull}
 use Rattle.bus.specs.Meaning.{Answer, granted, if-granted}
 
@@ -35,3 +35,28 @@ new-entry e puts-in = cond puts-in (e ∷ []) []
 -- the table after a note
 abbrev pub table-after : {E : Type 0} → (E → E → Bool) → ℕ → List E → E → Bool → List E
 table-after alike size es e puts-in = if-granted (table-answer alike size es e puts-in) (others alike es e ++ new-entry e puts-in) es
+
+-- the entries that hold now, and those noted for the next access change
+pub record Noting (E : Type 0) : Type 0 where
+  pub current : List E
+  pub noted : List E
+
+abbrev pub new-tables : {E : Type 0} → Noting E
+new-tables = record { current = []; noted = [] }
+
+-- after an access change what is noted holds, and the notes last
+abbrev pub settled : {E : Type 0} → Noting E → Noting E
+settled t = record { current = t .noted; noted = t .noted }
+
+-- of two tests, in their order, the first that refuses
+abbrev pub first-refusal : Answer → Answer → Answer
+first-refusal (Ok done) b = b
+first-refusal (Err refusal) b = Err refusal
+
+-- a note's values are tested before its place, and it is for the next access change
+abbrev pub note-answer : {E : Type 0} → (E → E → Bool) → ℕ → Answer → Noting E → E → Bool → Answer
+note-answer alike size in-range t e puts-in = first-refusal in-range (table-answer alike size (t .noted) e puts-in)
+
+abbrev pub noted-in : {E : Type 0} → (E → E → Bool) → ℕ → Answer → Noting E → E → Bool → Noting E
+noted-in alike size in-range t e puts-in =
+    record { current = t .current; noted = if-granted in-range (table-after alike size (t .noted) e puts-in) (t .noted) }

@@ -2,6 +2,7 @@
 ghost use mathlib.Core.Path.{_≡_};
 ghost use Rattle.access.specs.Meaning.{AccessModel, Lawful};
 
+pub mod pairs;
 mod slots;
 mod table;
 
