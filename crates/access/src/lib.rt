@@ -2,12 +2,17 @@
 ghost use mathlib.Core.Path.{_≡_};
 ghost use Rattle.access.specs.Meaning.{AccessModel, Lawful};
 
+pub mod changes;
+pub mod makers;
 pub mod pairs;
 mod slots;
+pub mod stops;
 mod table;
 
 use reader::ids::Eui64;
 use reader::refusal::Refusal;
+
+const LAST_UNIT: u16 = 3;
 
 /// An access list, known only by its model. The question leaves it as it is; an access change and
 /// a note make of it what the model says.

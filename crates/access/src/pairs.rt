@@ -2,6 +2,7 @@
 ghost use mathlib.Core.Path.{_≡_};
 ghost use Rattle.access.specs.Pairs.{same-pair, pair-range, pair-tables, new-pairs, pair-model};
 use crate::Access;
+use crate::LAST_UNIT;
 use crate::slots::Keyed;
 use crate::slots::Table;
 use reader::ids::Eui64;
@@ -9,8 +10,6 @@ use reader::ids::Eui64PartialEq;
 use reader::refusal::Refusal;
 
 const SIZE: usize = 64;
-
-const LAST_UNIT: u16 = 3;
 
 /// Puts a pair of EUI-64 and unit in, or takes it out.
 #[derive(Clone, Copy)]

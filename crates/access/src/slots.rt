@@ -14,6 +14,7 @@ pub trait Keyed {
 }
 
 /// The first `count` entries are in use, in the order of noting.
+#[derive(Copy)]
 pub struct Table<E, const N: usize> {
     pub entries: [E; N],
     pub count: usize,
@@ -21,5 +22,3 @@ pub struct Table<E, const N: usize> {
     ghost within: { count ≤ N },
     ghost narrow: { N ≤ 0xFFFF },
 }
-
-impl<E: Copy, const N: usize> Copy for Table<E, N> {}
