@@ -93,3 +93,10 @@ reset-handle shows h =
 abbrev pub was-reset : (NodeId → Option Eui64) → Book → Book
 was-reset shows b =
     ticking-so (with-handles (with-logins b (map (reset-row shows) (b .logins))) (map (reset-handle shows) (b .handles))) false
+
+-- an access change ends every holder that is no longer admitted
+abbrev pub kept-row : (Eui64 → ℕ → Bool) → LoginRow → LoginRow
+kept-row admits r = cond (holder r && not (admits (r .«owner_eui_64») (r .unit))) free-row r
+
+abbrev pub access-changed : (Eui64 → ℕ → Bool) → Book → Book
+access-changed admits b = swept-book (with-logins b (map (kept-row admits) (b .logins))) Orphans

@@ -4,7 +4,7 @@ ghost use mathlib.Core.List.{map};
 ghost use mathlib.Core.Path.{_≡_};
 ghost use Rattle.tables.specs.Books.{book-of, with-logins, with-handles};
 ghost use Rattle.tables.specs.Logins.{row-of};
-ghost use Rattle.tables.specs.Events.{given-login, given-handle, moved-handle, swept, swept-book, ended, ticking-so, each-login, net-updated, tick-counted, reset-row, reset-handle, was-reset};
+ghost use Rattle.tables.specs.Events.{given-login, given-handle, moved-handle, swept, swept-book, ended, ticking-so, each-login, net-updated, tick-counted, reset-row, reset-handle, was-reset, kept-row, access-changed};
 use crate::rows::Handle;
 use crate::rows::HandleSweep;
 use crate::rows::Login;
@@ -13,6 +13,7 @@ use crate::searches::after;
 use crate::tables::HANDLES;
 use crate::tables::LOGINS;
 use crate::tables::Tables;
+use access::Access;
 use bus::Bus;
 use bus::local_id;
 use reader::ids::NodeId;
@@ -120,6 +121,23 @@ impl Tables {
         }
     }
 
+    /// An access change, after it came to the list: every holder that is no longer admitted ends.
+    pub fn access_change<A: Access>(&mut self, list: &A)
+        ensures { λ _. ⌜ book-of (now (self .exit)) ≡ access-changed (A·Access .model .admits (now (list .entry))) (book-of (now (self .entry))) ⌝ }
+    {
+        self.keep_admitted(list);
+        self.sweep_handles(HandleSweep::Orphans);
+    }
+
+    fn keep_admitted<A: Access>(&mut self, list: &A)
+        ensures { λ _. ⌜ book-of (now (self .exit)) ≡ with-logins (book-of (now (self .entry))) (map (kept-row (A·Access .model .admits (now (list .entry)))) (book-of (now (self .entry)) .logins)) ⌝ }
+    {
+        for slot in 0..LOGINS {
+            let login = if_admitted(list, self.login(slot));
+            self.put_login(slot, login);
+        }
+    }
+
     /// A bus reset, after it came to the bus: unaware logins and those whose owner is gone become reserved, aware
     /// owners and handles are followed on the local bus.
     pub fn reset<B: Bus>(&mut self, bus: &B)
@@ -159,4 +177,14 @@ fn found_again<B: Bus>(bus: &B, handle: Handle) -> Handle
         found.node = local_id(bus, handle.eui_64).unwrap_or(NodeId::NONE);
     }
     found
+}
+
+fn if_admitted<A: Access>(list: &A, login: Login) -> Login
+    ensures { λ r. ⌜ row-of r ≡ kept-row (A·Access .model .admits (now (list .entry))) (row-of login) ⌝ }
+{
+    if login.is_holder() && !list.admits(login.owner_eui_64, login.unit) {
+        Login::free()
+    } else {
+        login
+    }
 }
