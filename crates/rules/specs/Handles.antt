@@ -24,9 +24,9 @@ use Rattle.rules.specs.Scenes.{Scene, Outcome, refuse, grant, own-login}
 abbrev pub query-outcome : Scene → Request → Outcome
 query-outcome s q =
     cond (ltb 3 (unit-of q)) (refuse LogicalUnitNotSupported) (
-        cond (ltb (q .«response_length») 4) (refuse FunctionRejected) (
-            grant (query-response (unit-of q) (q .«response_length») (s .book .logins)) (s .book)
-        )
+    cond (ltb (q .«response_length») 4) (refuse FunctionRejected) (
+    grant (query-response (unit-of q) (q .«response_length») (s .book .logins)) (s .book)
+    )
     )
 
 abbrev pub node-of : Request → NodeId
@@ -48,16 +48,16 @@ allocate-in s q (Some place) = grant (handle-response (place + 1)) (moved-handle
 abbrev pub allocate : Scene → Request → Outcome
 allocate s q =
     cond (ltb (q .«response_length») 4) (refuse FunctionRejected) (
-        cond (is-shown (s .shows (node-of q)) (q .«eui_64»)) (allocate-in s q (first (meant (login-id q) (For (q .«eui_64»))) 0 (s .book .handles))) (
-            refuse UnknownEui64
-        )
+    cond (is-shown (s .shows (node-of q)) (q .«eui_64»)) (allocate-in s q (first (meant (login-id q) (For (q .«eui_64»))) 0 (s .book .handles))) (
+    refuse UnknownEui64
+    )
     )
 
 -- one handle is given back; the own one is not, nor one of another login
 abbrev pub release-one : Scene → Request → ℕ → Outcome
 release-one s q place =
     cond (leb 1 (q .«node_or_handle») && eqb (handle-at (s .book .handles) place .login) (login-id q)) (
-        cond (handle-at (s .book .handles) place .own) (refuse FunctionRejected) (grant [] (put-handle (s .book) place free-handle))
+    cond (handle-at (s .book .handles) place .own) (refuse FunctionRejected) (grant [] (put-handle (s .book) place free-handle))
     ) (refuse NodeHandleNotRecognized)
 
 -- FFFFh frees all but the own

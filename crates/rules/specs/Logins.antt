@@ -57,14 +57,14 @@ handles-in-use b = count in-use (b .handles)
 abbrev pub new-row : NodeId → Eui64 → Request → LoginRow
 new-row source eui q =
     record {
-        unit = unit-of q;
-        «owner_id» = source;
-        «owner_eui_64» = eui;
-        «status_fifo» = q .«status_fifo»;
-        exclusive = q .«exclusive_or_allocate»;
-        aware = q .aware;
-        hold = hold-of q;
-        «ticks_left» = 0
+      unit = unit-of q;
+      «owner_id» = source;
+      «owner_eui_64» = eui;
+      «status_fifo» = q .«status_fifo»;
+      exclusive = q .«exclusive_or_allocate»;
+      aware = q .aware;
+      hold = hold-of q;
+      «ticks_left» = 0;
     }
 
 -- the own handle of a login stands at its owner's node
@@ -76,36 +76,36 @@ abbrev pub login-at : Scene → NodeId → Eui64 → Request → ℕ → Option 
 login-at s source eui q slot None = refuse (ResourcesUnavailable (handles-in-use (s .book)))
 login-at s source eui q slot (Some place) =
     grant (login-response (s .own) slot (place + 1) (hold-of q) (q .«response_length»)) (
-        given-handle (given-login (s .book) slot (new-row source eui q)) place (own-handle (slot + 1) eui source)
+    given-handle (given-login (s .book) slot (new-row source eui q)) place (own-handle (slot + 1) eui source)
     )
 
 abbrev pub login-in : Scene → NodeId → Eui64 → Request → Option ℕ → Outcome
 login-in s source eui q None = refuse (ResourcesUnavailable (logins-in-use (s .book)))
 login-in s source eui q (Some slot) =
     cond (q .aware) (login-at s source eui q slot (free-handle-place (s .book))) (
-        grant (login-response (s .own) slot 0 (hold-of q) (q .«response_length»)) (given-login (s .book) slot (new-row source eui q))
+    grant (login-response (s .own) slot 0 (hold-of q) (q .«response_length»)) (given-login (s .book) slot (new-row source eui q))
     )
 
 abbrev pub login-outcome : Scene → NodeId → Eui64 → Request → Outcome
 login-outcome s source eui q =
     cond (ltb 3 (unit-of q)) (refuse LogicalUnitNotSupported) (
-        cond (rejected source q) (refuse FunctionRejected) (
-            cond (denied s eui q) (refuse (AccessDenied (unit-of q))) (login-in s source eui q (free-login (s .book)))
-        )
+    cond (rejected source q) (refuse FunctionRejected) (
+    cond (denied s eui q) (refuse (AccessDenied (unit-of q))) (login-in s source eui q (free-login (s .book)))
+    )
     )
 
 -- unit, owner and ticks stay, the rest is replaced
 abbrev pub updated-row : LoginRow → Request → LoginRow
 updated-row r q =
     record {
-        unit = r .unit;
-        «owner_id» = r .«owner_id»;
-        «owner_eui_64» = r .«owner_eui_64»;
-        «status_fifo» = q .«status_fifo»;
-        exclusive = q .«exclusive_or_allocate»;
-        aware = q .aware;
-        hold = hold-of q;
-        «ticks_left» = r .«ticks_left»
+      unit = r .unit;
+      «owner_id» = r .«owner_id»;
+      «owner_eui_64» = r .«owner_eui_64»;
+      «status_fifo» = q .«status_fifo»;
+      exclusive = q .«exclusive_or_allocate»;
+      aware = q .aware;
+      hold = hold-of q;
+      «ticks_left» = r .«ticks_left»;
     }
 
 -- the number of the handle at a place, 0 where there is none
@@ -120,31 +120,31 @@ abbrev pub aware-update : Scene → Request → ℕ → LoginRow → Option ℕ 
 aware-update s q slot r None = refuse (ResourcesUnavailable (handles-in-use (s .book)))
 aware-update s q slot r (Some place) =
     grant (login-response (s .own) slot (place + 1) (hold-of q) (q .«response_length»)) (
-        given-handle (updated s q slot r) place (own-handle (slot + 1) (r .«owner_eui_64») (r .«owner_id»))
+    given-handle (updated s q slot r) place (own-handle (slot + 1) (r .«owner_eui_64») (r .«owner_id»))
     )
 
 -- newly aware brings an own handle, still aware keeps its handles, and no longer aware frees them
 abbrev pub update-in : Scene → Request → ℕ → LoginRow → Outcome
 update-in s q slot r =
     cond (q .aware) (
-        cond (r .aware) (
-            grant (login-response (s .own) slot (handle-number (first (meant (slot + 1) Own) 0 (s .book .handles))) (hold-of q) (q .«response_length»)) (
-                updated s q slot r
-            )
-        ) (aware-update s q slot r (free-handle-place (s .book)))
+    cond (r .aware) (
+    grant (login-response (s .own) slot (handle-number (first (meant (slot + 1) Own) 0 (s .book .handles))) (hold-of q) (q .«response_length»)) (
+    updated s q slot r
+    )
+    ) (aware-update s q slot r (free-handle-place (s .book)))
     ) (
-        grant (login-response (s .own) slot 0 (hold-of q) (q .«response_length»)) (
-            cond (r .aware) (swept-book (updated s q slot r) (AllOf (slot + 1))) (updated s q slot r)
-        )
+    grant (login-response (s .own) slot 0 (hold-of q) (q .«response_length»)) (
+    cond (r .aware) (swept-book (updated s q slot r) (AllOf (slot + 1))) (updated s q slot r)
+    )
     )
 
 abbrev pub update-of : Scene → NodeId → Request → Option ℕ → Outcome
 update-of s source q None = refuse LoginIdNotRecognized
 update-of s source q (Some slot) =
     cond (rejected source q) (refuse FunctionRejected) (
-        cond (q .«exclusive_or_allocate» && ltb 1 (count (among (OfUnit (row-at (s .book .logins) slot .unit))) (s .book .logins))) (
-            refuse (AccessDenied (row-at (s .book .logins) slot .unit))
-        ) (update-in s q slot (row-at (s .book .logins) slot))
+    cond (q .«exclusive_or_allocate» && ltb 1 (count (among (OfUnit (row-at (s .book .logins) slot .unit))) (s .book .logins))) (
+    refuse (AccessDenied (row-at (s .book .logins) slot .unit))
+    ) (update-in s q slot (row-at (s .book .logins) slot))
     )
 
 abbrev pub update-outcome : Scene → NodeId → Request → Outcome
@@ -159,14 +159,14 @@ own-handle-moved b node (Some place) = moved-handle b place node
 abbrev pub reconnect-outcome : Scene → NodeId → Eui64 → Request → Outcome
 reconnect-outcome s source eui q =
     cond (
-        leb 1 (login-id q)
-        && (holder (row-at (s .book .logins) (login-id q - 1)) && eqb (row-at (s .book .logins) (login-id q - 1) .«owner_eui_64» .0) (eui .0))
+    leb 1 (login-id q)
+    && (holder (row-at (s .book .logins) (login-id q - 1)) && eqb (row-at (s .book .logins) (login-id q - 1) .«owner_eui_64» .0) (eui .0))
     ) (
-        grant [] (
-            own-handle-moved (
-                put-login (s .book) (login-id q - 1) (row-after (row-at (s .book .logins) (login-id q - 1)) (Reconnect source))
-            ) source (first (meant (login-id q) Own) 0 (s .book .handles))
-        )
+    grant [] (
+    own-handle-moved (
+    put-login (s .book) (login-id q - 1) (row-after (row-at (s .book .logins) (login-id q - 1)) (Reconnect source))
+    ) source (first (meant (login-id q) Own) 0 (s .book .handles))
+    )
     ) (refuse LoginIdNotRecognized)
 
 abbrev pub logout-of : Scene → Option ℕ → Outcome

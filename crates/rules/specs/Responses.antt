@@ -27,7 +27,7 @@ login-stored room = cond (ltb room 16) 12 16
 abbrev pub login-response : NodeId → ℕ → ℕ → ℕ → ℕ → List ℕ
 login-response own slot handle hold room =
     take (login-stored room) (
-        big 2 (login-stored room) ++ (big 2 (slot + 1) ++ (big 2 (own .0) ++ (big 6 (agent-offset slot) ++ (big 2 handle ++ big 2 hold))))
+    big 2 (login-stored room) ++ (big 2 (slot + 1) ++ (big 2 (own .0) ++ (big 6 (agent-offset slot) ++ (big 2 handle ++ big 2 hold))))
     )
 
 -- the handle and 16 zero bits
@@ -43,7 +43,7 @@ abbrev pub query-entries : ℕ → ℕ → ℕ → List LoginRow → List ℕ
 query-entries unit room slot [] = []
 query-entries unit room slot (r ∷ rs) =
     cond (among (OfUnit unit) r) (
-        cond (ltb room 12) [] (query-entry slot r ++ query-entries unit (room - 12) (slot + 1) rs)
+    cond (ltb room 12) [] (query-entry slot r ++ query-entries unit (room - 12) (slot + 1) rs)
     ) (query-entries unit room (slot + 1) rs)
 
 -- the bytes stored and 16, then the entries

@@ -12,25 +12,25 @@ pub returns : need.returns
 unfolding first-from next-free code number-at entry-at
 returns c =
     record {
-        granted-bytes = refl;
-        granted-block = refl;
-        second-refused = refl;
-        second-block = refl;
-        held-refused = refl;
-        waits-for-the-gap = refl;
-        stands-through-four = refl;
-        ends-at-the-fifth = refl;
-        next-slot = refl;
-        hold-of-7 = refl;
-        hold-of-8 = refl;
-        hold-of-9 = refl;
-        short-granted = refl;
-        short-hold = refl;
-        too-short = refl;
-        not-admitted = refl;
-        no-such-unit = refl;
-        nobody-there = refl;
-        code-of-300 = refl;
-        code-of-FFC2h = refl;
-        not-shortest = entry-absent _ refl
+      granted-bytes = refl;
+      granted-block = refl;
+      second-refused = refl;
+      second-block = refl;
+      held-refused = refl;
+      waits-for-the-gap = refl;
+      stands-through-four = refl;
+      ends-at-the-fifth = refl;
+      next-slot = refl;
+      hold-of-7 = refl;
+      hold-of-8 = refl;
+      hold-of-9 = refl;
+      short-granted = refl;
+      short-hold = refl;
+      too-short = refl;
+      not-admitted = refl;
+      no-such-unit = refl;
+      nobody-there = refl;
+      code-of-300 = refl;
+      code-of-FFC2h = refl;
+      not-shortest = entry-absent _ refl;
     }
