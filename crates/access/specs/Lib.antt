@@ -1,0 +1,7 @@
+pub mod Meaning
+pub mod Tables
+pub mod Held
+pub mod Pairs
+pub mod Makers
+pub mod Stops
+pub mod Changes

@@ -1,0 +1,33 @@
+// Notes come true: on any access list by its model, and on a known one by value.
+ghost use mathlib.Core.Path.{_≡_};
+ghost use Rattle.access.specs.Changes.{Admitted-after-change, first-admitted};
+use crate::Access;
+use crate::pairs::PairNote;
+use crate::pairs::PairTable;
+use crate::pairs::PairTableAccess;
+use crate::stops::StopList;
+use crate::stops::StopListAccess;
+use crate::stops::StopNote;
+use reader::ids::Eui64;
+
+/// Notes something, and says whether an EUI-64 may log in to a unit after the next access change.
+pub fn admitted_after_change<A: Access>(list: &mut A, note: A::Note, eui: Eui64, unit: u16) -> bool
+    ensures { λ r. ⌜ Admitted-after-change (A·Access .model) (now (list .entry)) note eui unit r (now (list .exit)) ⌝ }
+{
+    let _ = list.note(note);
+    list.change();
+    list.admits(eui, unit)
+}
+
+/// The same at a new stop list with one stop, on a new pair table.
+pub fn admitted_on_a_new_list(pair: PairNote, stopped: Eui64, eui: Eui64, unit: u16) -> bool
+    ensures { λ r. ⌜ r ≡ first-admitted pair stopped eui unit ⌝ }
+{
+    let mut list = StopList::new(PairTable::new());
+    let stop = StopNote::Stop {
+        eui_64: stopped,
+        stopped: true,
+    };
+    let _ = list.note(stop);
+    admitted_after_change(&mut list, StopNote::Below(pair), eui, unit)
+}

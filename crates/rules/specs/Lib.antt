@@ -1,0 +1,6 @@
+pub mod Scenes
+pub mod Responses
+pub mod Logins
+pub mod Handles
+pub mod Serving
+pub mod Laws
