@@ -1,5 +1,5 @@
 -- QUERY LOGINS and NODE HANDLE. Assumes nothing.
-use mathlib.Core.Bool.{false, cond, _&&_}
+use mathlib.Core.Bool.{Bool, false, cond, _&&_}
 use mathlib.Core.List.{[]}
 use Prim.Native.Nat.{ℕ, _+_, _-_}
 use lib.Dec.{eqb, leb, ltb}
@@ -45,18 +45,25 @@ abbrev pub allocate-in : Scene → Request → Option ℕ → Outcome
 allocate-in s q None = allocate-new s q (free-handle-place (s .book))
 allocate-in s q (Some place) = grant (handle-response (place + 1)) (moved-handle (s .book) place (node-of q))
 
+-- the bus shows the EUI-64 at the node number
+abbrev pub shown-there : Scene → Request → Bool
+shown-there s q = is-shown (s .shows (node-of q)) (q .«eui_64»)
+
 abbrev pub allocate : Scene → Request → Outcome
 allocate s q =
     cond (ltb (q .«response_length») 4) (refuse FunctionRejected) (
-    cond (is-shown (s .shows (node-of q)) (q .«eui_64»)) (allocate-in s q (first (meant (login-id q) (For (q .«eui_64»))) 0 (s .book .handles))) (
+    cond (shown-there s q) (allocate-in s q (first (meant (login-id q) (For (q .«eui_64»))) 0 (s .book .handles))) (
     refuse UnknownEui64
     )
     )
 
+abbrev pub of-login : Scene → Request → ℕ → Bool
+of-login s q place = leb 1 (q .«node_or_handle») && eqb (handle-at (s .book .handles) place .login) (login-id q)
+
 -- one handle is given back; the own one is not, nor one of another login
 abbrev pub release-one : Scene → Request → ℕ → Outcome
 release-one s q place =
-    cond (leb 1 (q .«node_or_handle») && eqb (handle-at (s .book .handles) place .login) (login-id q)) (
+    cond (of-login s q place) (
     cond (handle-at (s .book .handles) place .own) (refuse FunctionRejected) (grant [] (put-handle (s .book) place free-handle))
     ) (refuse NodeHandleNotRecognized)
 

@@ -4,3 +4,5 @@ pub mod Logins
 pub mod Handles
 pub mod Serving
 pub mod Laws
+pub mod Runs
+pub mod Claims

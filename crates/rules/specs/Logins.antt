@@ -138,6 +138,10 @@ update-in s q slot r =
     )
     )
 
+-- exclusive is asked of a unit that has another holder
+abbrev pub disputed : Scene → Request → ℕ → Bool
+disputed s q slot = q .«exclusive_or_allocate» && ltb 1 (count (among (OfUnit (row-at (s .book .logins) slot .unit))) (s .book .logins))
+
 abbrev pub update-of : Scene → NodeId → Request → Option ℕ → Outcome
 update-of s source q None = refuse LoginIdNotRecognized
 update-of s source q (Some slot) =
@@ -155,13 +159,16 @@ abbrev pub own-handle-moved : Book → NodeId → Option ℕ → Book
 own-handle-moved b node None = b
 own-handle-moved b node (Some place) = moved-handle b place node
 
+-- the login is a holder, and its owner is the one at the source
+abbrev pub may-reconnect : Scene → Eui64 → Request → Bool
+may-reconnect s eui q =
+    leb 1 (login-id q)
+    && (holder (row-at (s .book .logins) (login-id q - 1)) && eqb (row-at (s .book .logins) (login-id q - 1) .«owner_eui_64» .0) (eui .0))
+
 -- the owner comes back to its login, wherever it is now
 abbrev pub reconnect-outcome : Scene → NodeId → Eui64 → Request → Outcome
 reconnect-outcome s source eui q =
-    cond (
-    leb 1 (login-id q)
-    && (holder (row-at (s .book .logins) (login-id q - 1)) && eqb (row-at (s .book .logins) (login-id q - 1) .«owner_eui_64» .0) (eui .0))
-    ) (
+    cond (may-reconnect s eui q) (
     grant [] (
     own-handle-moved (
     put-login (s .book) (login-id q - 1) (row-after (row-at (s .book .logins) (login-id q - 1)) (Reconnect source))

@@ -34,6 +34,10 @@ abbrev pub from : Option Eui64 → Scene → NodeId → Request → Outcome
 from None s source q = refuse (Unspecified source)
 from (Some eui) s source q = by-function (q .function) s source eui q
 
+-- the format is not 0, or the function is unknown
+abbrev pub unsupported : Request → Bool
+unsupported q = not (eqb (q .«rq_fmt») 0) || unknown (q .function)
+
 -- format and function first, then who is at the source ID
 abbrev pub outcome : Scene → NodeId → Request → Outcome
-outcome s source q = cond (not (eqb (q .«rq_fmt») 0) || unknown (q .function)) (refuse RequestTypeNotSupported) (from (s .shows source) s source q)
+outcome s source q = cond (unsupported q) (refuse RequestTypeNotSupported) (from (s .shows source) s source q)

@@ -1,9 +1,18 @@
 // What follows from the rules. A function here has nothing to run: its contract is the law.
 ghost use Rattle.reader.specs.declared.refusal.Refusal.{Refusal};
+ghost use Rattle.rules.specs.Claims.{Claims-hold};
 ghost use Rattle.rules.specs.Laws.{Changes-nothing};
 ghost use Rattle.rules.specs.declared.calls.Answer.the-variants.{Granted, Refused};
+use access::Access;
+use bus::Bus;
 
 /// A refused request leaves the tables and the response area as they were.
 pub fn refusal_changes_nothing()
     ensures { λ _. ⌜ ((r : Refusal) → Changes-nothing (Refused r)) ⌝ }
+{}
+
+/// After every run of calls from a new target, over every bus and every access list: an exclusive holder is its unit's
+/// only holder, no initiator holds a unit twice, and the list admits every holder.
+pub fn claims_hold<B: Bus, A: Access>()
+    ensures { λ _. ⌜ Claims-hold (B·Bus .model) (A·Access .model) ⌝ }
 {}
