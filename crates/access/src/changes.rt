@@ -1,6 +1,7 @@
-// Notes come true: on any access list by its model, and on a known one by value.
+// Notes come true: on any access list by its model, on a known one by value, and as a law of each.
 ghost use mathlib.Core.Path.{_≡_};
 ghost use Rattle.access.specs.Changes.{Admitted-after-change, first-admitted};
+ghost use Rattle.access.specs.Following.{Pairs-follow, Makers-follow, Stops-follow};
 use crate::Access;
 use crate::pairs::PairNote;
 use crate::pairs::PairTable;
@@ -31,3 +32,18 @@ pub fn admitted_on_a_new_list(pair: PairNote, stopped: Eui64, eui: Eui64, unit: 
     let _ = list.note(stop);
     admitted_after_change(&mut list, StopNote::Below(pair), eui, unit)
 }
+
+/// What is noted on a pair table comes true. The contract is the law, and there is nothing to run.
+pub fn pair_table_follows_notes()
+    ensures { λ _. ⌜ Pairs-follow ⌝ }
+{}
+
+/// The same of a maker list.
+pub fn maker_list_follows_notes()
+    ensures { λ _. ⌜ Makers-follow ⌝ }
+{}
+
+/// The same of a stop list, wherever it is so of the list below.
+pub fn stop_list_follows_notes<A: Access>()
+    ensures { λ _. ⌜ Stops-follow (A·Access .model) ⌝ }
+{}
