@@ -21,7 +21,7 @@ use Rattle.access.specs.declared.makers.MakerList.{MakerList}
 use Rattle.access.specs.Tables.{listed, settled}
 use Rattle.access.specs.Pairs.{pair-places, same-pair, pair-range, noted-pair, pair-tables, pair-admits, pair-model}
 use Rattle.access.specs.Makers.{maker-places, same-maker, maker-range, puts-in, maker-of, units-of, in-mask, maker-tables, maker-admits, maker-model}
-use Rattle.access.specs.Following.{Follows, Pairs-follow, pair-next, Makers-follow, maker-next}
+use Rattle.access.specs.Following.{Follows, Pair-notes, pair-next, Maker-notes, maker-next}
 use Rattle.access.proofs.Tables.{listed-like, noted-there, noted-elsewhere, noted-not}
 
 pub some-or-none : {X : Type 0} (x : X) (b : Bool) → isSome (cond b (Some x) None) ≡ b
@@ -34,14 +34,16 @@ pair-self p = grind (arith, tells)
 pair-keys : (p q x : Pair) → same-pair x p ≡ true → same-pair x q ≡ true → same-pair p q ≡ true
 pair-keys p q x h k = grind (arith, tells)
 
-pub pairs-follow : Pairs-follow
+pub pairs-follow : Follows pair-model pair-next
 pairs-follow = record {
-  notes = record {
-    change-admits-next = λ a b c. ap pair-admits c;
-    change-keeps-notes = λ a b c. ap (λ t. pair-admits (settled t)) c;
-    refused-note = λ a b n r h.
-        ap (λ t. pair-admits (settled t)) (h .1 ∙ noted-not same-pair (noted-pair n) pair-places (pair-range (noted-pair n)) (pair-tables a) (n .admitted) r (sym (h .0)));
-  };
+  change-admits-next = λ a b c. ap pair-admits c;
+  change-keeps-notes = λ a b c. ap (λ t. pair-admits (settled t)) c;
+  refused-note = λ a b n r h.
+      ap (λ t. pair-admits (settled t)) (h .1 ∙ noted-not same-pair (noted-pair n) pair-places (pair-range (noted-pair n)) (pair-tables a) (n .admitted) r (sym (h .0)));
+}
+
+pub pair-notes : Pair-notes
+pair-notes = record {
   note-of-pair = λ a b n h.
       ap (λ t. isSome (listed same-pair (t .noted) (noted-pair n))) (h .1)
       ∙ ap isSome (noted-there same-pair (noted-pair n) (pair-self (noted-pair n)) pair-places (pair-range (noted-pair n)) (pair-tables a) (n .admitted) (sym (h .0)))
@@ -82,14 +84,16 @@ module _ (a b : MakerList) (n : MakerNote) (e : Eui64) (u : ℕ) where
       let away = noted-elsewhere same-maker n (asked e) (maker-keys n (asked e)) (ne-eqb (n .maker) (maker-of e) other) maker-places (maker-range n) (maker-tables a) (puts-in n) in
       ap (λ t. maker-admits (settled t) e u) (h .1) ∙ ap (λ o. not (none-eui e) && in-mask (units-of o) u) away
 
-pub makers-follow : Makers-follow
+pub makers-follow : Follows maker-model maker-next
 makers-follow = record {
-  notes = record {
-    change-admits-next = λ a b c. ap maker-admits c;
-    change-keeps-notes = λ a b c. ap (λ t. maker-admits (settled t)) c;
-    refused-note = λ a b n r h.
-        ap (λ t. maker-admits (settled t)) (h .1 ∙ noted-not same-maker n maker-places (maker-range n) (maker-tables a) (puts-in n) r (sym (h .0)));
-  };
+  change-admits-next = λ a b c. ap maker-admits c;
+  change-keeps-notes = λ a b c. ap (λ t. maker-admits (settled t)) c;
+  refused-note = λ a b n r h.
+      ap (λ t. maker-admits (settled t)) (h .1 ∙ noted-not same-maker n maker-places (maker-range n) (maker-tables a) (puts-in n) r (sym (h .0)));
+}
+
+pub maker-notes : Maker-notes
+maker-notes = record {
   note-of-maker = λ a b n h e u same real. of-maker a b n e u h same real;
   note-of-another = λ a b n r h e u other. of-another a b n e u r h other;
 }

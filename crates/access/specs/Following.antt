@@ -32,8 +32,7 @@ abbrev pub pair-next : PairTable → Eui64 → ℕ → Bool
 pair-next a = pair-admits (settled (pair-tables a))
 
 -- a granted note says whether its pair is next, and no note says it of another
-pub record Pairs-follow : Type 0 where
-  pub notes : Follows pair-model pair-next
+pub record Pair-notes : Type 0 where
   pub note-of-pair : (a b : PairTable) (n : PairNote) → pair-model .Notes a n granted b → pair-next b (n .eui_64) (n .unit) ≡ n .admitted
   pub note-of-another : (a b : PairTable) (n : PairNote) (r : Answer) → pair-model .Notes a n r b
       → (e : Eui64) (u : ℕ) → same-pair (noted-pair n) (record { eui = e; unit = u }) ≡ false → pair-next b e u ≡ pair-next a e u
@@ -42,8 +41,7 @@ abbrev pub maker-next : MakerList → Eui64 → ℕ → Bool
 maker-next a = maker-admits (settled (maker-tables a))
 
 -- a granted note says which units its maker's EUI-64s have next, and no note says it of another maker's
-pub record Makers-follow : Type 0 where
-  pub notes : Follows maker-model maker-next
+pub record Maker-notes : Type 0 where
   pub note-of-maker : (a b : MakerList) (n : MakerNote) → maker-model .Notes a n granted b
       → (e : Eui64) (u : ℕ) → n .maker ≡ maker-of e → none-eui e ≡ false → maker-next b e u ≡ in-mask (n .units) u
   pub note-of-another : (a b : MakerList) (n : MakerNote) (r : Answer) → maker-model .Notes a n r b
