@@ -8,14 +8,10 @@ use Rattle.std.proofs.shelf.Tests.{ne-eqb}
 use Rattle.std.proofs.shelf.Ways.{tells}
 use Rattle.std.specs.Options.{isSome}
 use Rattle.std.specs.declared.option.Option.the-variants.{Some, None}
-use Rattle.std.specs.declared.result.Result.the-variants.{Err}
 use Rattle.reader.specs.declared.ids.Eui64.{Eui64}
-use Rattle.reader.specs.declared.refusal.Refusal.{Refusal}
 use Rattle.reader.specs.Ids.{none-eui}
 use Rattle.bus.specs.Meaning.{Answer, granted}
 use Rattle.access.specs.declared.pairs.Pair.{Pair}
-use Rattle.access.specs.declared.pairs.PairNote.{PairNote}
-use Rattle.access.specs.declared.pairs.PairTable.{PairTable}
 use Rattle.access.specs.declared.makers.MakerNote.{MakerNote}
 use Rattle.access.specs.declared.makers.MakerList.{MakerList}
 use Rattle.access.specs.Tables.{listed, settled}

@@ -1,6 +1,6 @@
 -- The notes of a stop list and of the list below are its next set. Assumes nothing.
-use mathlib.Core.Path.{_≡_, refl, sym, _∙_, ap}
-use mathlib.Core.Bool.{Bool, true, false, cond, not, _&&_}
+use mathlib.Core.Path.{_≡_, sym, _∙_, ap}
+use mathlib.Core.Bool.{Bool, true, not, _&&_}
 use Prim.Native.Nat.{ℕ}
 use native.Mathlib.Omega.{arith}
 use Rattle.std.proofs.shelf.Ways.{tells}
@@ -8,12 +8,11 @@ use Rattle.std.specs.Options.{isSome}
 use Rattle.std.specs.declared.result.Result.the-variants.{Err}
 use Rattle.reader.specs.declared.ids.Eui64.{Eui64}
 use Rattle.reader.specs.declared.refusal.Refusal.{Refusal}
-use Rattle.bus.specs.Meaning.{Answer, granted}
 use Rattle.access.specs.declared.stops.StopList.{StopList}
 use Rattle.access.specs.declared.stops.StopNote.{StopNote}
 use Rattle.access.specs.declared.stops.StopNote.the-variants.{Stop, Below}
 use Rattle.access.specs.Meaning.{AccessModel}
-use Rattle.access.specs.Tables.{listed, settled}
+use Rattle.access.specs.Tables.{settled}
 use Rattle.access.specs.Stops.{stop-places, same-eui, stop-range, stop-tables, stop-admits, stop-model}
 use Rattle.access.specs.Following.{Follows, Stop-follows, stop-next}
 use Rattle.access.proofs.Tables.{noted-there, noted-elsewhere, noted-not}

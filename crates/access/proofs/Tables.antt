@@ -5,12 +5,11 @@ use mathlib.Core.List.{List, [], _∷_, _++_}
 use Prim.Native.Nat.{ℕ}
 use native.Mathlib.Omega.{arith}
 use Rattle.std.proofs.shelf.Tests.{both-ways}
-use Rattle.std.specs.declared.option.Option.{Option}
 use Rattle.std.specs.declared.option.Option.the-variants.{Some, None}
 use Rattle.std.specs.declared.result.Result.the-variants.{Ok, Err}
 use Rattle.reader.specs.declared.refusal.Refusal.{Refusal}
 use Rattle.bus.specs.Meaning.{Answer, granted, if-granted}
-use Rattle.access.specs.Tables.{Noting, listed, others, new-entry, table-answer, table-after, first-refusal, note-answer, noted-in}
+use Rattle.access.specs.Tables.{Noting, listed, others, new-entry, table-answer, note-answer, noted-in}
 
 refused-not-granted : (r : Refusal) → Err r ≡ granted → ⊥
 refused-not-granted r h = let z : _≡_ {A = ℕ} 0 1 = cc in omega arith

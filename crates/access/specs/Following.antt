@@ -1,13 +1,12 @@
 -- What notes are for: they are the next set, and stay noted when it has come. Assumes nothing.
 use mathlib.Core.Path.{_≡_}
-use mathlib.Core.Bool.{Bool, true, false, not, _&&_}
+use mathlib.Core.Bool.{Bool, false, not, _&&_}
 use Prim.Native.Nat.{ℕ}
 use Rattle.std.specs.declared.result.Result.the-variants.{Err}
 use Rattle.reader.specs.declared.ids.Eui64.{Eui64}
 use Rattle.reader.specs.declared.refusal.Refusal.{Refusal}
 use Rattle.reader.specs.Ids.{none-eui}
 use Rattle.bus.specs.Meaning.{Answer, granted}
-use Rattle.access.specs.declared.pairs.Pair.{Pair}
 use Rattle.access.specs.declared.pairs.PairNote.{PairNote}
 use Rattle.access.specs.declared.pairs.PairTable.{PairTable}
 use Rattle.access.specs.declared.makers.MakerNote.{MakerNote}
