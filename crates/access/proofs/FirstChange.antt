@@ -1,24 +1,17 @@
 -- Whom a stop list with one stop, on a pair table with one pair, admits. Assumes nothing.
-use mathlib.Core.Path.{_≡_, refl, sym, _∙_, ap}
-use mathlib.Core.Bool.{Bool, true, false, cond, not, _&&_}
-use mathlib.Core.List.{List, [], _∷_}
+use mathlib.Core.Path.{_≡_, _∙_, ap}
+use mathlib.Core.Bool.{Bool, true, not, _&&_}
 use Prim.Native.Nat.{ℕ}
 use native.Mathlib.Omega.{arith}
-use lib.Dec.{eqb, leb}
+use lib.Dec.{leb}
 use Rattle.std.proofs.shelf.Ways.{tells}
-use Rattle.std.specs.Options.{isSome}
-use Rattle.std.specs.declared.option.Option.the-variants.{Some, None}
-use Rattle.std.specs.declared.result.Result.the-variants.{Err}
 use Rattle.reader.specs.declared.ids.Eui64.{Eui64}
-use Rattle.reader.specs.declared.refusal.Refusal.the-variants.{OutOfRange}
 use Rattle.reader.specs.Ids.{none-eui}
-use Rattle.bus.specs.Meaning.{Answer, granted, if-granted}
-use Rattle.access.specs.declared.pairs.Pair.{Pair}
+use Rattle.bus.specs.Meaning.{Answer}
 use Rattle.access.specs.declared.pairs.PairNote.{PairNote}
 use Rattle.access.specs.declared.pairs.PairTable.{PairTable}
 use Rattle.access.specs.declared.stops.StopList.{StopList}
 use Rattle.access.specs.declared.stops.StopNote.the-variants.{Stop, Below}
-use Rattle.access.specs.Tables.{listed}
 use Rattle.access.specs.Pairs.{same-pair, noted-pair, pair-tables, new-pairs, pair-settled, pair-noted, pair-admits, pair-model}
 use Rattle.access.specs.Stops.{same-eui, stop-tables, new-stops, stop-settled, stop-noted, stop-admits, is-stopped, stop-model}
 use Rattle.access.specs.Changes.{Admitted-after-change, first-admitted}

@@ -1,1 +1,4 @@
 pub mod FirstChange
+pub mod Tables
+pub mod ListFollows
+pub mod StopFollows

@@ -5,3 +5,4 @@ pub mod Pairs
 pub mod Makers
 pub mod Stops
 pub mod Changes
+pub mod Following

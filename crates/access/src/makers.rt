@@ -1,6 +1,6 @@
 // A list of makers, whose stations are admitted to the units of a mask.
 ghost use mathlib.Core.Path.{_≡_};
-ghost use Rattle.access.specs.Makers.{same-maker, maker-range, maker-of, units-of, in-mask, maker-tables, new-makers, maker-model};
+ghost use Rattle.access.specs.Makers.{same-maker, maker-range, maker-of, in-mask, maker-tables, new-makers, maker-model};
 use crate::Access;
 use crate::LAST_UNIT;
 use crate::slots::Keyed;

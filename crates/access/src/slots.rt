@@ -13,7 +13,8 @@ pub trait Keyed {
         ensures { λ r. ⌜ r ≡ alike (now (self .entry)) (now (other .entry)) ⌝ };
 }
 
-/// The first `count` entries are in use, in the order of noting.
+/// The first `count` entries are in use, in the order of noting. A refusal tells the size in 16 bits,
+/// so no table has more places.
 #[derive(Copy)]
 pub struct Table<E, const N: usize> {
     pub entries: [E; N],
