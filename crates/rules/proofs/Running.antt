@@ -100,5 +100,5 @@ module _ {B A N : Type 0} (m : BusModel B) (n : AccessModel A N) (lawful : Lawfu
   run-holds start new [] run = subst (λ (z : Book). Claims (n .admits (start .list)) (z .logins)) (sym new) (claims-at-first (n .admits (start .list)) logins-size)
   run-holds start new (e ∷ es) run = step-holds (now-at start es) (e .call) (e .answer) (e .after) (run .1) (run-holds start new es (run .0))
 
-  pub claims-hold : Claims-hold m n
+  pub claims-hold : Claims-hold New m n
   claims-hold = run-holds

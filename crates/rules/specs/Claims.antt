@@ -9,7 +9,7 @@ use Rattle.access.specs.Meaning.{AccessModel}
 use Rattle.tables.specs.Logins.{holder}
 use Rattle.tables.specs.Rows.{row-at}
 use Rattle.tables.specs.declared.rows.LoginRow.{LoginRow}
-use Rattle.rules.specs.Runs.{Snapshot, Event, Run, New, now-at}
+use Rattle.rules.specs.Runs.{Snapshot, Event, Run, now-at}
 
 -- of all holders, active or reserved
 pub record Claims (admits : Eui64 → ℕ → Bool) (rows : List LoginRow) : Type 0 where
@@ -22,8 +22,8 @@ pub record Claims (admits : Eui64 → ℕ → Bool) (rows : List LoginRow) : Typ
   -- the list admits every holder
   pub holders-are-admitted : (i : ℕ) → holder (row-at rows i) ≡ true → admits (row-at rows i .«owner_eui_64») (row-at rows i .unit) ≡ true
 
--- after every run from a new target
-abbrev pub Claims-hold : {B A N : Type 0} → BusModel B → AccessModel A N → Type 0
-Claims-hold {B} {A} {N} m n =
-    (start : Snapshot B A) → New start → (history : List (Event B A N)) → Run m n start history
+-- after every run from such a target
+abbrev pub Claims-hold : {B A N : Type 0} → (Snapshot B A → Type 0) → BusModel B → AccessModel A N → Type 0
+Claims-hold {B} {A} {N} Begins m n =
+    (start : Snapshot B A) → Begins start → (history : List (Event B A N)) → Run m n start history
     → Claims (n .admits (now-at start history .list)) (now-at start history .book .logins)

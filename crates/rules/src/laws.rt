@@ -2,6 +2,7 @@
 ghost use Rattle.reader.specs.declared.refusal.Refusal.{Refusal};
 ghost use Rattle.rules.specs.Claims.{Claims-hold};
 ghost use Rattle.rules.specs.Laws.{Changes-nothing};
+ghost use Rattle.rules.specs.Runs.{New};
 ghost use Rattle.rules.specs.declared.calls.Answer.the-variants.{Granted, Refused};
 use access::Access;
 use bus::Bus;
@@ -14,5 +15,5 @@ pub fn refusal_changes_nothing()
 /// After every run of calls from a new target, over every bus and every access list: an exclusive holder is its unit's
 /// only holder, no initiator holds a unit twice, and the list admits every holder.
 pub fn claims_hold<B: Bus, A: Access>()
-    ensures { λ _. ⌜ Claims-hold (B·Bus .model) (A·Access .model) ⌝ }
+    ensures { λ _. ⌜ Claims-hold New (B·Bus .model) (A·Access .model) ⌝ }
 {}
