@@ -5,3 +5,7 @@ pub mod Claims
 pub mod Granting
 pub mod Served
 pub mod Running
+pub mod Calm
+pub mod Turning
+pub mod Restarting
+pub mod Holding

@@ -42,7 +42,7 @@ either-book P false x y p q = q
 pub handle-leaves-logins : (b : Book) (place : ℕ) (h : Handle) → given-handle b place h .logins ≡ b .logins
 handle-leaves-logins b place h = either-book (λ x. x .logins ≡ b .logins) (ltb place handles-size) _ b refl refl
 
-moved-leaves-logins : (b : Book) (node : NodeId) (o : Option ℕ) → own-handle-moved b node o .logins ≡ b .logins
+pub moved-leaves-logins : (b : Book) (node : NodeId) (o : Option ℕ) → own-handle-moved b node o .logins ≡ b .logins
 moved-leaves-logins b node None = refl
 moved-leaves-logins b node (Some place) = refl
 

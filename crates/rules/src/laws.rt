@@ -1,6 +1,8 @@
 // What follows from the rules. A function here has nothing to run: its contract is the law.
+ghost use Prim.Native.Nat.{_+_};
 ghost use Rattle.reader.specs.declared.refusal.Refusal.{Refusal};
 ghost use Rattle.rules.specs.Claims.{Claims-hold};
+ghost use Rattle.rules.specs.Holds.{Holds-kept};
 ghost use Rattle.rules.specs.Laws.{Changes-nothing};
 ghost use Rattle.rules.specs.Runs.{New};
 ghost use Rattle.rules.specs.declared.calls.Answer.the-variants.{Granted, Refused};
@@ -16,4 +18,10 @@ pub fn refusal_changes_nothing()
 /// only holder, no initiator holds a unit twice, and the list admits every holder.
 pub fn claims_hold<B: Bus, A: Access>()
     ensures { λ _. ⌜ Claims-hold New (B·Bus .model) (A·Access .model) ⌝ }
+{}
+
+/// A login that a reset or a net update left reserved stays so, with its record, until it is reconnected, an access
+/// change no longer admits it, or hold + 2 ticks have come after the first gap, and not longer.
+pub fn holds_are_kept<B: Bus, A: Access>()
+    ensures { λ _. ⌜ Holds-kept (λ hold. hold + 2) (B·Bus .model) (A·Access .model) ⌝ }
 {}
