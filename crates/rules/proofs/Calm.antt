@@ -3,11 +3,11 @@ use mathlib.Core.Bool.{Bool, true, false, cond, not, _&&_}
 use mathlib.Core.List.{List}
 use mathlib.Core.Logic.{_⊎_, inl, inr}
 use mathlib.Core.Path.{_≡_, refl, sym, ap, subst, _∙_}
-use Prim.Native.Nat.{ℕ, _+_, _-_}
+use Prim.Native.Nat.{ℕ, _+_, _-_, _≤_}
 use native.Mathlib.Omega.{arith}
 use lib.Dec.{eqb, leb}
 use lib.ListN.{set}
-use Rattle.std.proofs.shelf.Tests.{both-ways, and-parts, and-left, and-right, not-true}
+use Rattle.std.proofs.shelf.Tests.{both-ways, and-parts, and-left, and-right, leb-true, not-true}
 use Rattle.std.specs.declared.option.Option.{Option}
 use Rattle.std.specs.declared.option.Option.the-variants.{Some, None}
 use Rattle.reader.specs.Ids.{none-id, none-eui}
@@ -55,6 +55,7 @@ active-unreserved r a =
 -- the own active login is active
 pub record Own (b : Book) (id slot : ℕ) : Type 0 where
   pub is-active : active (row-at (b .logins) slot) ≡ true
+  pub numbered : 1 ≤ id
   pub at : slot ≡ id - 1
 
 pub own-is-active : (b : Book) (source : NodeId) (id slot : ℕ) → own-login b source id ≡ Some slot → Own b id slot
@@ -66,5 +67,5 @@ own-is-active b source id slot e =
       go true p q =
           let is : id - 1 ≡ slot = cc in
           let a = and-parts (active (row-at (b .logins) (id - 1))) _ (and-parts (leb 1 id) _ p .1) .0 in
-          record { is-active = subst (λ (k : ℕ). active (row-at (b .logins) k) ≡ true) is a; at = sym is }
+          record { is-active = subst (λ (k : ℕ). active (row-at (b .logins) k) ≡ true) is a; numbered = leb-true 1 id (and-parts (leb 1 id) _ p .0); at = sym is }
       go false p q = absurd (let z : _≡_ {A = ℕ} 0 1 = cc in omega arith)

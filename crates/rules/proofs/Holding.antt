@@ -26,6 +26,7 @@ use Rattle.rules.specs.declared.calls.Answer.{Answer}
 use Rattle.rules.specs.declared.calls.Call.{Call}
 use Rattle.rules.specs.declared.calls.Call.the-variants.{Request, BusReset, NetUpdate, Gap, Tick, AccessChange, BusNote, AccessNote}
 use Rattle.rules.proofs.Calm.{Calm}
+use Rattle.rules.proofs.LastHold.{hold-at-restart}
 use Rattle.rules.proofs.Restarting.{From-the-start, at-map, bus-reset-starts, net-update-starts, tick-reserves-none, change-reserves-none, tick-of-reserved}
 use Rattle.rules.proofs.Served.{either-book}
 use Rattle.rules.proofs.Turning.{reconnect-ends-the-wait, request-leaves-reserved, request-leaves-ticking}
@@ -294,15 +295,17 @@ module _ {B A N : Type 0} (m : BusModel B) (n : AccessModel A N) (lawful : Lawfu
   later-part start (e ∷ []) last before run = (tt, run .1)
   later-part start (e ∷ f ∷ es) last before run = (later-part start (f ∷ es) last before (run .0), run .1)
 
-  last-step : (start : Snapshot B A) (since : List (Event B A N)) (last : Event B A N) (before : List (Event B A N)) → Run m n start (since ++ last ∷ before)
-      → Step m n (now-at start before) (last .call) (last .answer) (last .after)
-  last-step start [] last before run = run .1
-  last-step start (e ∷ es) last before run = last-step start es last before (run .0)
+  -- and its earlier part, with the last step, is a run
+  earlier-part : (start : Snapshot B A) (since : List (Event B A N)) (last : Event B A N) (before : List (Event B A N)) → Run m n start (since ++ last ∷ before) → Run m n start (last ∷ before)
+  earlier-part start [] last before run = run
+  earlier-part start (e ∷ es) last before run = earlier-part start es last before (run .0)
 
   pub holds-kept : Holds-kept (λ hold. hold + 2) m n
-  holds-kept start before last since restarts calm run slot h =
-      let begun = restart-begins slot (now-at start before) (last .call) (last .answer) (last .after) (last-step start since last before run) restarts in
+  holds-kept start new before last since restarts calm run slot h =
+      let earlier = earlier-part start since last before run in
+      let begun = restart-begins slot (now-at start before) (last .call) (last .answer) (last .after) (earlier .1) restarts in
       let l = row-at (last .after .book .logins) slot in
-      told slot l h since (now-at (last .after) since) (
-      track slot l h (last .after) (begun .not-ticking) (begun .from-the-start h) since calm (later-part start since last before run) .which
+      let now = now-at (last .after) since in
+      subst (λ (hold : ℕ). Hold-kept n slot l (hold + 2) since now) (hold-at-restart m n slot start new before last restarts earlier (held slot l h)) (
+      told slot l h since now (track slot l h (last .after) (begun .not-ticking) (begun .from-the-start h) since calm (later-part start since last before run) .which)
       )

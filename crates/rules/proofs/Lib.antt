@@ -9,3 +9,5 @@ pub mod Calm
 pub mod Turning
 pub mod Restarting
 pub mod Holding
+pub mod HoldGiving
+pub mod LastHold

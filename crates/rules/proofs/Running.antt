@@ -27,7 +27,7 @@ use Rattle.rules.proofs.Thinning.{Like, like-after, like-kept, thinner-map}
 never : (r : LoginRow) → r ≡ free-row → holder r ≡ true → ⊥
 never r e h = both-ways (holder r) (ap holder e) h
 
-all-free : (n i : ℕ) → row-at (replicate n free-row) i ≡ free-row
+pub all-free : (n i : ℕ) → row-at (replicate n free-row) i ≡ free-row
 all-free zero i = refl
 all-free (suc n) zero = refl
 all-free (suc n) (suc i) = all-free n i

@@ -28,6 +28,7 @@ pub record Same-holder (r t : LoginRow) : Type 0 where
   pub unit : t .unit ≡ r .unit
   pub exclusive : t .exclusive ≡ r .exclusive
   pub owner : t .«owner_eui_64» ≡ r .«owner_eui_64»
+  pub hold : t .hold ≡ r .hold
 
 -- freed, or the same holder
 abbrev pub Like : LoginRow → LoginRow → Type 0
@@ -37,13 +38,13 @@ abbrev pub Thinner : List LoginRow → List LoginRow → Type 0
 Thinner rows after = (i : ℕ) → Like (row-at rows i) (row-at after i)
 
 pub like-same : (r : LoginRow) → Like r r
-like-same r h = record { held = h; unit = refl; exclusive = refl; owner = refl }
+like-same r h = record { held = h; unit = refl; exclusive = refl; owner = refl; hold = refl }
 
 pub like-free : (r : LoginRow) → Like r free-row
 like-free r h = absurd (let z : _≡_ {A = ℕ} 0 1 = ap (λ (b : Bool). cond b 1 0) h in omega arith)
 
 like-moved : (r : LoginRow) (id : NodeId) (t : ℕ) → Like r (moved r id t)
-like-moved r id t h = record { held = h; unit = refl; exclusive = refl; owner = refl }
+like-moved r id t h = record { held = h; unit = refl; exclusive = refl; owner = refl; hold = refl }
 
 like-cond : (r x y : LoginRow) (b : Bool) → Like r x → Like r y → Like r (cond b x y)
 like-cond r x y true p q = p

@@ -40,7 +40,7 @@ use Rattle.rules.proofs.Calm.{Calm, Own, calm-same, calm-to, calm-set, unheld-
 use Rattle.rules.proofs.Served.{either-book, handle-leaves-logins, moved-leaves-logins}
 
 -- what is written over a holder is there
-set-held : (rows : List LoginRow) (k : ℕ) (t : LoginRow) → holder (row-at rows k) ≡ true → row-at (set rows k t) k ≡ t
+pub set-held : (rows : List LoginRow) (k : ℕ) (t : LoginRow) → holder (row-at rows k) ≡ true → row-at (set rows k t) k ≡ t
 set-held [] k t h = absurd (both-ways false refl h)
 set-held (r ∷ rows) zero t h = refl
 set-held (r ∷ rows) (suc k) t h = set-held rows k t h

@@ -1,5 +1,5 @@
 -- What is promised of a login that a reset or a net update left reserved. Assumes nothing.
-use mathlib.Core.Bool.{Bool, true, false, cond, _&&_, _||_}
+use mathlib.Core.Bool.{Bool, true, false, cond, not, _&&_, _||_}
 use mathlib.Core.List.{List, [], _∷_, _++_}
 use mathlib.Core.Logic.{_⊎_}
 use mathlib.Core.Path.{_≡_}
@@ -13,7 +13,8 @@ use Rattle.access.specs.Meaning.{AccessModel}
 use Rattle.tables.specs.Logins.{holder, reserved, moved, nowhere}
 use Rattle.tables.specs.Rows.{row-at}
 use Rattle.tables.specs.declared.rows.LoginRow.{LoginRow}
-use Rattle.rules.specs.Runs.{Snapshot, Event, Run, now-at}
+use Rattle.rules.specs.Logins.{hold-of}
+use Rattle.rules.specs.Runs.{Snapshot, Event, Run, New, now-at}
 use Rattle.rules.specs.declared.calls.Answer.{Answer}
 use Rattle.rules.specs.declared.calls.Answer.the-variants.{Granted, Refused}
 use Rattle.rules.specs.declared.calls.Call.{Call}
@@ -51,6 +52,14 @@ kind AccessChange = change
 kind (BusNote node e) = other
 kind (AccessNote note) = other
 
+abbrev pub is-login : Function → Bool
+is-login Login = true
+is-login QueryLogins = false
+is-login Reconnect = false
+is-login NodeHandle = false
+is-login Logout = false
+is-login (Unknown n) = false
+
 abbrev pub is-reconnect : Function → Bool
 is-reconnect Login = false
 is-reconnect QueryLogins = false
@@ -73,6 +82,36 @@ reconnects id Tick a = false
 reconnects id AccessChange a = false
 reconnects id (BusNote node e) a = false
 reconnects id (AccessNote note) a = false
+
+-- a granted login of a slot that was free, or a granted update that names its login ID
+abbrev pub gives-hold : {N : Type 0} → ℕ → Call N → Answer → LoginRow → LoginRow → Bool
+gives-hold slot (Request source q) a before after =
+    granted a && (is-login (q .function) && cond (q .update) (eqb (q .«unit_or_login_id») (slot + 1)) (not (holder before) && holder after))
+gives-hold slot BusReset a before after = false
+gives-hold slot NetUpdate a before after = false
+gives-hold slot Gap a before after = false
+gives-hold slot Tick a before after = false
+gives-hold slot AccessChange a before after = false
+gives-hold slot (BusNote node e) a before after = false
+gives-hold slot (AccessNote note) a before after = false
+
+abbrev pub hold-in : {N : Type 0} → Call N → ℕ
+hold-in (Request source q) = hold-of q
+hold-in BusReset = 0
+hold-in NetUpdate = 0
+hold-in Gap = 0
+hold-in Tick = 0
+hold-in AccessChange = 0
+hold-in (BusNote node e) = 0
+hold-in (AccessNote note) = 0
+
+-- the hold of the last granted login or update of a slot
+abbrev pub last-hold : {B A N : Type 0} → Snapshot B A → ℕ → List (Event B A N) → ℕ
+last-hold start slot [] = 0
+last-hold start slot (e ∷ es) =
+    cond (gives-hold slot (e .call) (e .answer) (row-at (now-at start es .book .logins) slot) (row-at (e .after .book .logins) slot)) (hold-in (e .call)) (
+    last-hold start slot es
+    )
 
 -- of the events since a reset or a net update, the newest first
 module _ {B A N : Type 0} where
@@ -120,9 +159,11 @@ module _ {B A N : Type 0} where
         → row-at (now .book .logins) slot ≡ moved l nowhere (span - ticks-after-gap since)
     pub has-ended : reserved (row-at (now .book .logins) slot) ≡ false → Unclaimed (slot + 1) since → Was-free slot since
 
--- of every run, split at its last reset or net update, and of every login that this left reserved; the ticks it is kept follow from its hold
+-- of every run from a new target, split at its last reset or net update, and of every login that this left reserved:
+-- how many ticks it is kept follows from the hold of its last login or update
 abbrev pub Holds-kept : {B A N : Type 0} → (ℕ → ℕ) → BusModel B → AccessModel A N → Type 0
 Holds-kept {B} {A} {N} ticks m n =
-    (start : Snapshot B A) (before : List (Event B A N)) (last : Event B A N) (since : List (Event B A N)) → kind (last .call) ≡ restart → Unrestarted since
-    → Run m n start (since ++ last ∷ before) → (slot : ℕ) → reserved (row-at (last .after .book .logins) slot) ≡ true
-    → Hold-kept n slot (row-at (last .after .book .logins) slot) (ticks (row-at (last .after .book .logins) slot .hold)) since (now-at (last .after) since)
+    (start : Snapshot B A) → New start → (before : List (Event B A N)) (last : Event B A N) (since : List (Event B A N))
+    → kind (last .call) ≡ restart → Unrestarted since → Run m n start (since ++ last ∷ before)
+    → (slot : ℕ) → reserved (row-at (last .after .book .logins) slot) ≡ true
+    → Hold-kept n slot (row-at (last .after .book .logins) slot) (ticks (last-hold start slot before)) since (now-at (last .after) since)

@@ -20,8 +20,9 @@ pub fn claims_hold<B: Bus, A: Access>()
     ensures { λ _. ⌜ Claims-hold New (B·Bus .model) (A·Access .model) ⌝ }
 {}
 
-/// A login that a reset or a net update left reserved stays so, with its record, until it is reconnected, an access
-/// change no longer admits it, or hold + 2 ticks have come after the first gap, and not longer.
+/// In every run from a new target, over every bus and every access list: a login that a reset or a net update left
+/// reserved stays so, with its record, until it is reconnected, an access change no longer admits it, or hold + 2 ticks
+/// have come after the first gap, and no longer. Hold is that of its last granted login or update.
 pub fn holds_are_kept<B: Bus, A: Access>()
     ensures { λ _. ⌜ Holds-kept (λ hold. hold + 2) (B·Bus .model) (A·Access .model) ⌝ }
 {}
