@@ -5,3 +5,6 @@ pub mod Claims
 pub mod Granting
 pub mod Served
 pub mod Running
+pub mod HandlePlaces
+pub mod HandleThinning
+pub mod HandleFollowing

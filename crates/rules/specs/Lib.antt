@@ -6,3 +6,4 @@ pub mod Serving
 pub mod Laws
 pub mod Runs
 pub mod Claims
+pub mod HandleClaims
