@@ -8,3 +8,4 @@ pub mod Running
 pub mod HandlePlaces
 pub mod HandleThinning
 pub mod HandleFollowing
+pub mod HandleGiving
