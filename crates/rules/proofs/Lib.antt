@@ -9,3 +9,4 @@ pub mod HandlePlaces
 pub mod HandleThinning
 pub mod HandleFollowing
 pub mod HandleGiving
+pub mod HandleSweeping
