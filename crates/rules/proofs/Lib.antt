@@ -10,3 +10,4 @@ pub mod HandleThinning
 pub mod HandleFollowing
 pub mod HandleGiving
 pub mod HandleSweeping
+pub mod HandleKeeping
