@@ -11,3 +11,6 @@ pub mod HandleFollowing
 pub mod HandleGiving
 pub mod HandleSweeping
 pub mod HandleKeeping
+pub mod HandleLogins
+pub mod HandleUpdates
+pub mod HandleServed
