@@ -14,3 +14,4 @@ pub mod HandleKeeping
 pub mod HandleLogins
 pub mod HandleUpdates
 pub mod HandleServed
+pub mod HandleRunning

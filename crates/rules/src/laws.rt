@@ -1,6 +1,7 @@
 // What follows from the rules. A function here has nothing to run: its contract is the law.
 ghost use Rattle.reader.specs.declared.refusal.Refusal.{Refusal};
 ghost use Rattle.rules.specs.Claims.{Claims-hold};
+ghost use Rattle.rules.specs.HandleClaims.{Handles-hold};
 ghost use Rattle.rules.specs.Laws.{Changes-nothing};
 ghost use Rattle.rules.specs.Runs.{New};
 ghost use Rattle.rules.specs.declared.calls.Answer.the-variants.{Granted, Refused};
@@ -16,4 +17,11 @@ pub fn refusal_changes_nothing()
 /// only holder, no initiator holds a unit twice, and the list admits every holder.
 pub fn claims_hold<B: Bus, A: Access>()
     ensures { λ _. ⌜ Claims-hold New (B·Bus .model) (A·Access .model) ⌝ }
+{}
+
+/// After every run of calls from a new target, over every bus and every access list: each handle in use belongs to an aware
+/// holder, each aware holder has exactly one own handle, with its owner's EUI-64, and wherever a holder has an owner ID or a
+/// handle a node ID, the bus shows its EUI-64 there.
+pub fn handles_hold<B: Bus, A: Access>()
+    ensures { λ _. ⌜ Handles-hold New (B·Bus .model) (A·Access .model) ⌝ }
 {}
