@@ -11,3 +11,13 @@ pub mod Restarting
 pub mod Holding
 pub mod HoldGiving
 pub mod LastHold
+pub mod HandlePlaces
+pub mod HandleThinning
+pub mod HandleFollowing
+pub mod HandleGiving
+pub mod HandleSweeping
+pub mod HandleKeeping
+pub mod HandleLogins
+pub mod HandleUpdates
+pub mod HandleServed
+pub mod HandleRunning

@@ -7,3 +7,4 @@ pub mod Laws
 pub mod Runs
 pub mod Claims
 pub mod Holds
+pub mod HandleClaims
