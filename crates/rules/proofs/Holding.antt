@@ -19,7 +19,7 @@ use Rattle.tables.specs.Rows.{row-at}
 use Rattle.tables.specs.declared.rows.LoginEvent.the-variants.{NetUpdate as NetUpdated, Tick as Ticked}
 use Rattle.tables.specs.declared.rows.LoginRow.{LoginRow}
 use Rattle.rules.specs.Holds.{Kind, restart, gap, tick, change, other, is-gap, is-tick, kind, reconnects, Unrestarted, Unclaimed, Left-admitted, gap-came, ticks-after-gap, Was-free, Kept-for, Hold-kept, Holds-kept}
-use Rattle.rules.specs.Runs.{Snapshot, Event, Step, Run, now-at, scene}
+use Rattle.rules.specs.Runs.{Snapshot, Event, Step, Run, New, now-at, scene}
 use Rattle.rules.specs.Scenes.{answer-of, book-after}
 use Rattle.rules.specs.Serving.{outcome}
 use Rattle.rules.specs.declared.calls.Answer.{Answer}
@@ -94,12 +94,12 @@ module _ {B A N : Type 0} (m : BusModel B) (n : AccessModel A N) (lawful : Lawfu
       reconnected p =
           ap reserved (row-as y _ (step .2)) ∙ reconnect-ends-the-wait (scene m n x) slot (lawful .none-shows-nobody (x .bus)) source q (by-answer true p)
 
-      calmed : reconnects (slot + 1) (asked source q) a ≡ false → Calm (row x) (row y)
+      pub calmed : reconnects (slot + 1) (asked source q) a ≡ false → Calm (row x) (row y)
       calmed p =
           subst (Calm (row x)) (sym (row-as y _ (step .2))) (request-leaves-reserved (scene m n x) slot (lawful .none-shows-nobody (x .bus)) source q (by-answer false p))
 
     -- no call but a reset or a net update makes a login reserved
-    reserves-none : (x : Snapshot B A) (call : Call N) (a : Answer) (y : Snapshot B A) → Step m n x call a y → (kind call ≡ restart → ⊥)
+    pub reserves-none : (x : Snapshot B A) (call : Call N) (a : Answer) (y : Snapshot B A) → Step m n x call a y → (kind call ≡ restart → ⊥)
         → reserved (row x) ≡ false → reserved (row y) ≡ false
     reserves-none x (Request source q) a y step e h = go (reconnects (slot + 1) (asked source q) a) refl where
       go : (t : Bool) → reconnects (slot + 1) (asked source q) a ≡ t → reserved (row y) ≡ false
@@ -300,7 +300,7 @@ module _ {B A N : Type 0} (m : BusModel B) (n : AccessModel A N) (lawful : Lawfu
   earlier-part start [] last before run = run
   earlier-part start (e ∷ es) last before run = earlier-part start es last before (run .0)
 
-  pub holds-kept : Holds-kept (λ hold. hold + 2) m n
+  pub holds-kept : Holds-kept New (λ hold. hold + 2) m n
   holds-kept start new before last since restarts calm run slot h =
       let earlier = earlier-part start since last before run in
       let begun = restart-begins slot (now-at start before) (last .call) (last .answer) (last .after) (earlier .1) restarts in

@@ -14,7 +14,7 @@ use Rattle.tables.specs.Logins.{holder, reserved, moved, nowhere}
 use Rattle.tables.specs.Rows.{row-at}
 use Rattle.tables.specs.declared.rows.LoginRow.{LoginRow}
 use Rattle.rules.specs.Logins.{hold-of}
-use Rattle.rules.specs.Runs.{Snapshot, Event, Run, New, now-at}
+use Rattle.rules.specs.Runs.{Snapshot, Event, Run, now-at}
 use Rattle.rules.specs.declared.calls.Answer.{Answer}
 use Rattle.rules.specs.declared.calls.Answer.the-variants.{Granted, Refused}
 use Rattle.rules.specs.declared.calls.Call.{Call}
@@ -159,11 +159,11 @@ module _ {B A N : Type 0} where
         → row-at (now .book .logins) slot ≡ moved l nowhere (span - ticks-after-gap since)
     pub has-ended : reserved (row-at (now .book .logins) slot) ≡ false → Unclaimed (slot + 1) since → Was-free slot since
 
--- of every run from a new target, split at its last reset or net update, and of every login that this left reserved:
+-- of every run from such a target, split at its last reset or net update, and of every login that this left reserved:
 -- how many ticks it is kept follows from the hold of its last login or update
-abbrev pub Holds-kept : {B A N : Type 0} → (ℕ → ℕ) → BusModel B → AccessModel A N → Type 0
-Holds-kept {B} {A} {N} ticks m n =
-    (start : Snapshot B A) → New start → (before : List (Event B A N)) (last : Event B A N) (since : List (Event B A N))
+abbrev pub Holds-kept : {B A N : Type 0} → (Snapshot B A → Type 0) → (ℕ → ℕ) → BusModel B → AccessModel A N → Type 0
+Holds-kept {B} {A} {N} Begins ticks m n =
+    (start : Snapshot B A) → Begins start → (before : List (Event B A N)) (last : Event B A N) (since : List (Event B A N))
     → kind (last .call) ≡ restart → Unrestarted since → Run m n start (since ++ last ∷ before)
     → (slot : ℕ) → reserved (row-at (last .after .book .logins) slot) ≡ true
     → Hold-kept n slot (row-at (last .after .book .logins) slot) (ticks (last-hold start slot before)) since (now-at (last .after) since)

@@ -8,3 +8,4 @@ pub mod Runs
 pub mod Claims
 pub mod Holds
 pub mod HandleClaims
+pub mod Law
