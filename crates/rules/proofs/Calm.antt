@@ -1,21 +1,22 @@
 -- What a request leaves of a reserved login, and that none makes one. Assumes that FFFFh shows nobody.
 use mathlib.Core.Bool.{Bool, true, false, cond, not, _&&_}
-use mathlib.Core.List.{List}
-use mathlib.Core.Logic.{_⊎_, inl, inr}
+use mathlib.Core.List.{List, _∷_}
+use mathlib.Core.Logic.{inl, inr}
 use mathlib.Core.Path.{_≡_, refl, sym, ap, subst, _∙_}
-use Prim.Native.Nat.{ℕ, _+_, _-_, _≤_}
+use Prim.Native.Nat.{ℕ, zero, suc, _-_, _≤_}
 use native.Mathlib.Omega.{arith}
 use lib.Dec.{eqb, leb}
 use lib.ListN.{set}
 use Rattle.std.proofs.shelf.Tests.{both-ways, and-parts, and-left, and-right, leb-true, not-true}
-use Rattle.std.specs.declared.option.Option.{Option}
 use Rattle.std.specs.declared.option.Option.the-variants.{Some, None}
 use Rattle.reader.specs.Ids.{none-id, none-eui}
 use Rattle.reader.specs.declared.ids.NodeId.{NodeId}
 use Rattle.tables.specs.Books.{Book}
-use Rattle.tables.specs.Logins.{holder, active, reserved, free-row}
+use Rattle.tables.specs.Logins.{holder, active, reserved, free-row, moved, after-event, row-after}
 use Rattle.tables.specs.Rows.{row-at}
+use Rattle.tables.specs.declared.rows.LoginEvent.the-variants.{Reconnect as Reconnected}
 use Rattle.tables.specs.declared.rows.LoginRow.{LoginRow}
+use Rattle.tables.specs.declared.rows.LoginState.the-variants.{Free, Reserved, Active}
 use Rattle.tables.proofs.Setting.{set-either}
 use Rattle.rules.specs.Scenes.{own-login}
 
@@ -69,3 +70,20 @@ own-is-active b source id slot e =
           let a = and-parts (active (row-at (b .logins) (id - 1))) _ (and-parts (leb 1 id) _ p .1) .0 in
           record { is-active = subst (λ (k : ℕ). active (row-at (b .logins) k) ≡ true) is a; numbered = leb-true 1 id (and-parts (leb 1 id) _ p .0); at = sym is }
       go false p q = absurd (let z : _≡_ {A = ℕ} 0 1 = cc in omega arith)
+
+-- what is written over a holder is there
+pub set-held : (rows : List LoginRow) (k : ℕ) (t : LoginRow) → holder (row-at rows k) ≡ true → row-at (set rows k t) k ≡ t
+set-held [] k t h = absurd (both-ways false refl h)
+set-held (r ∷ rows) zero t h = refl
+set-held (r ∷ rows) (suc k) t h = set-held rows k t h
+
+-- a holder that reconnects at a node is not reserved
+pub returned : (r : LoginRow) (source : NodeId) → holder r ≡ true → none-id source ≡ false → reserved (row-after r (Reconnected source)) ≡ false
+returned r source held at-node = go (none-eui (r .«owner_eui_64»)) (none-id (r .«owner_id»)) refl where
+  there : reserved (moved r source 0) ≡ false
+  there = ap (λ (b : Bool). not (none-eui (r .«owner_eui_64»)) && b) at-node ∙ and-right (not (none-eui (r .«owner_eui_64»))) false refl
+
+  go : (e i : Bool) → none-eui (r .«owner_eui_64») ≡ e → reserved (after-event (cond e Free (cond i Reserved Active)) (Reconnected source) r) ≡ false
+  go true i p = absurd (both-ways (holder r) (ap not p) held)
+  go false true p = there
+  go false false p = there

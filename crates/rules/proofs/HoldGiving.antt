@@ -1,11 +1,11 @@
 -- The hold of a login is the one that was asked when it was granted or last updated: a walk through the rules. Assumes nothing.
 use mathlib.Core.Bool.{Bool, true, false, cond, not, _&&_}
-use mathlib.Core.List.{List, []}
+use mathlib.Core.List.{List}
 use mathlib.Core.Logic.{inl, inr}
 use mathlib.Core.Path.{_≡_, refl, sym, ap, subst, _∙_}
-use Prim.Native.Nat.{ℕ, _+_, _-_, _≤_}
+use Prim.Native.Nat.{ℕ, _+_, _-_}
 use native.Mathlib.Omega.{arith}
-use lib.Dec.{eqb, leb, ltb}
+use lib.Dec.{eqb, ltb}
 use lib.ListN.{set}
 use Rattle.std.proofs.shelf.Tests.{both-ways, and-parts, and-left, and-right, and-from, eqb-true, eqb-false, not-true}
 use Rattle.std.specs.declared.option.Option.{Option}
@@ -17,12 +17,11 @@ use Rattle.reader.specs.declared.request.Request.{Request}
 use Rattle.reader.specs.declared.request.Function.{Function}
 use Rattle.reader.specs.declared.request.Function.the-variants.{Login, QueryLogins, Reconnect, NodeHandle, Logout, Unknown}
 use Rattle.tables.specs.Books.{Book, put-login}
-use Rattle.tables.specs.Events.{given-login, given-handle, swept-book}
+use Rattle.tables.specs.Events.{given-login, given-handle}
 use Rattle.tables.specs.Logins.{holder, free-row, row-after}
 use Rattle.tables.specs.Rows.{logins-size, row-at, handle-at}
 use Rattle.tables.specs.Searches.{first, meant, free-login, free-handle-place}
 use Rattle.tables.specs.declared.rows.Handle.{Handle}
-use Rattle.tables.specs.declared.rows.HandleSweep.the-variants.{AllOf}
 use Rattle.tables.specs.declared.rows.LoginEvent.the-variants.{Reconnect as Reconnected}
 use Rattle.tables.specs.declared.rows.LoginRow.{LoginRow}
 use Rattle.tables.specs.declared.rows.WhichHandle.the-variants.{For, Own as OwnHandle}
@@ -33,15 +32,9 @@ use Rattle.rules.specs.Holds.{granted, is-login}
 use Rattle.rules.specs.Logins.{unit-of, login-id, hold-of, rejected, denied, new-row, login-at, login-in, login-outcome, updated-row, updated, aware-update, update-in, update-of, own-handle-moved, disputed, may-reconnect, logout-of}
 use Rattle.rules.specs.Scenes.{Scene, Outcome, refuse, grant, answer-of, book-after, own-login}
 use Rattle.rules.specs.Serving.{unsupported, by-function, from, outcome}
-use Rattle.rules.proofs.Calm.{Own, own-is-active}
-use Rattle.rules.proofs.Served.{either-book, handle-leaves-logins, moved-leaves-logins}
+use Rattle.rules.proofs.Calm.{Own, own-is-active, set-held}
+use Rattle.rules.proofs.Walking.{by-test, either-book, handle-leaves-logins, moved-leaves-logins}
 use Rattle.rules.proofs.Thinning.{Like, like-same, like-free, like-after, thinner-set}
-use Rattle.rules.proofs.Turning.{set-held}
-
--- by a test, whatever is to be shown of what came of a request
-by-test : (P : Outcome → Type 0) (b : Bool) (x y : Outcome) → (b ≡ true → P x) → (b ≡ false → P y) → P (cond b x y)
-by-test P true x y f g = f refl
-by-test P false x y f g = g refl
 
 module _ (s : Scene) (k : ℕ) (q : Request) where
   abbrev before : LoginRow

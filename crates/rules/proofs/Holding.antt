@@ -1,6 +1,6 @@
 -- A reserved login through every call until the next reset or net update. Assumes that the bus is lawful.
 use mathlib.Core.Bool.{Bool, true, false, cond, not, _&&_, _||_}
-use mathlib.Core.List.{List, [], _∷_, _++_, map}
+use mathlib.Core.List.{List, _∷_, _++_}
 use mathlib.Core.Logic.{_⊎_, inl, inr}
 use mathlib.Core.Path.{_≡_, refl, sym, ap, subst, _∙_}
 use Prim.Native.Nat.{ℕ, _+_, _-_, _<_}
@@ -11,25 +11,18 @@ use Rattle.bus.specs.Meaning.{BusModel, Lawful}
 use Rattle.access.specs.Meaning.{AccessModel}
 use Rattle.reader.specs.declared.ids.NodeId.{NodeId}
 use Rattle.reader.specs.declared.request.Request.{Request as Asked}
-use Rattle.tables.specs.Books.{Book}
-use Rattle.tables.specs.Events.{kept-row, reset-row, each-login, swept-book, tick-counted}
-use Rattle.tables.specs.declared.rows.HandleSweep.the-variants.{Orphans}
-use Rattle.tables.specs.Logins.{holder, reserved, free-row, nowhere, moved, ticked, row-after}
+use Rattle.tables.specs.Events.{kept-row}
+use Rattle.tables.specs.Logins.{holder, reserved, free-row, nowhere, moved, ticked}
 use Rattle.tables.specs.Rows.{row-at}
-use Rattle.tables.specs.declared.rows.LoginEvent.the-variants.{NetUpdate as NetUpdated, Tick as Ticked}
 use Rattle.tables.specs.declared.rows.LoginRow.{LoginRow}
-use Rattle.rules.specs.Holds.{Kind, restart, gap, tick, change, other, is-gap, is-tick, kind, reconnects, Unrestarted, Unclaimed, Left-admitted, gap-came, ticks-after-gap, Was-free, Kept-for, Hold-kept, Holds-kept}
-use Rattle.rules.specs.Runs.{Snapshot, Event, Step, Run, New, now-at, scene}
-use Rattle.rules.specs.Scenes.{answer-of, book-after}
-use Rattle.rules.specs.Serving.{outcome}
+use Rattle.rules.specs.Holds.{restart, change, is-gap, is-tick, kind, reconnects, Unrestarted, Unclaimed, gap-came, ticks-after-gap, Was-free, Kept-for, Hold-kept, Holds-kept}
+use Rattle.rules.specs.Runs.{Snapshot, Event, Step, Run, New, now-at}
 use Rattle.rules.specs.declared.calls.Answer.{Answer}
 use Rattle.rules.specs.declared.calls.Call.{Call}
 use Rattle.rules.specs.declared.calls.Call.the-variants.{Request, BusReset, NetUpdate, Gap, Tick, AccessChange, BusNote, AccessNote}
-use Rattle.rules.proofs.Calm.{Calm}
 use Rattle.rules.proofs.LastHold.{hold-at-restart}
-use Rattle.rules.proofs.Restarting.{From-the-start, at-map, bus-reset-starts, net-update-starts, tick-reserves-none, change-reserves-none, tick-of-reserved}
-use Rattle.rules.proofs.Served.{either-book}
-use Rattle.rules.proofs.Turning.{reconnect-ends-the-wait, request-leaves-reserved, request-leaves-ticking}
+use Rattle.rules.proofs.Restarting.{at-map, tick-of-reserved}
+use Rattle.rules.proofs.HoldSteps.{row-as, row-ticked, reconnected, calmed, reserves-none, restart-begins, ticking-step}
 
 module _ {B A N : Type 0} (m : BusModel B) (n : AccessModel A N) (lawful : Lawful m) where
   abbrev asked : NodeId → Asked → Call N
@@ -38,84 +31,6 @@ module _ {B A N : Type 0} (m : BusModel B) (n : AccessModel A N) (lawful : Lawfu
   module _ (slot : ℕ) where
     abbrev row : Snapshot B A → LoginRow
     row x = row-at (x .book .logins) slot
-
-    row-as : (y : Snapshot B A) (b : Book) → y .book ≡ b → row y ≡ row-at (b .logins) slot
-    row-as y b e = ap (λ (z : Book). row-at (z .logins) slot) e
-
-    -- a reset and a net update begin a hold anew
-    record Begun (y : Snapshot B A) : Type 0 where
-      from-the-start : From-the-start (row y)
-      not-ticking : y .book .ticking ≡ false
-
-    restart-begins : (x : Snapshot B A) (call : Call N) (a : Answer) (y : Snapshot B A) → Step m n x call a y → kind call ≡ restart → Begun y
-    restart-begins x (Request source q) a y step e = absurd (let z : _≡_ {A = ℕ} 0 1 = cc in omega arith)
-    restart-begins x BusReset a y step e =
-        record {
-          from-the-start = subst From-the-start (sym (row-as y _ (step .3) ∙ at-map (reset-row (m .shows (y .bus))) refl (x .book .logins) slot)) (bus-reset-starts (m .shows (y .bus)) (row x));
-          not-ticking = ap (λ (z : Book). z .ticking) (step .3);
-        }
-    restart-begins x NetUpdate a y step e =
-        record {
-          from-the-start = subst From-the-start (sym (row-as y _ (step .3) ∙ at-map (λ r. row-after r NetUpdated) refl (x .book .logins) slot)) (net-update-starts (row x));
-          not-ticking = ap (λ (z : Book). z .ticking) (step .3);
-        }
-    restart-begins x Gap a y step e = absurd (let z : _≡_ {A = ℕ} 0 1 = cc in omega arith)
-    restart-begins x Tick a y step e = absurd (let z : _≡_ {A = ℕ} 0 1 = cc in omega arith)
-    restart-begins x AccessChange a y step e = absurd (let z : _≡_ {A = ℕ} 0 1 = cc in omega arith)
-    restart-begins x (BusNote node eui) a y step e = absurd (let z : _≡_ {A = ℕ} 0 1 = cc in omega arith)
-    restart-begins x (AccessNote note) a y step e = absurd (let z : _≡_ {A = ℕ} 0 1 = cc in omega arith)
-
-    -- ticks count from the first gap on
-    ticked-ticking : (b : Book) → tick-counted b .ticking ≡ b .ticking
-    ticked-ticking b = either-book (λ z. z .ticking ≡ b .ticking) (b .ticking) _ b refl refl
-
-    ticking-step : (x : Snapshot B A) (call : Call N) (a : Answer) (y : Snapshot B A) → Step m n x call a y → (kind call ≡ restart → ⊥)
-        → y .book .ticking ≡ (is-gap (kind call) || x .book .ticking)
-    ticking-step x (Request source q) a y step e =
-        ap (λ (z : Book). z .ticking) (step .2) ∙ request-leaves-ticking (scene m n x) slot (lawful .none-shows-nobody (x .bus)) source q
-    ticking-step x BusReset a y step e = absurd (e refl)
-    ticking-step x NetUpdate a y step e = absurd (e refl)
-    ticking-step x Gap a y step e = ap (λ (z : Book). z .ticking) (step .2)
-    ticking-step x Tick a y step e = ap (λ (z : Book). z .ticking) (step .2) ∙ ticked-ticking (x .book)
-    ticking-step x AccessChange a y step e = ap (λ (z : Book). z .ticking) (step .3)
-    ticking-step x (BusNote node eui) a y step e = ap (λ (z : Book). z .ticking) (step .4)
-    ticking-step x (AccessNote note) a y step e = ap (λ (z : Book). z .ticking) (step .4)
-
-    -- the row after a tick, by whether ticks count
-    row-ticked : (b : Book) (t : Bool) → b .ticking ≡ t → row-at (tick-counted b .logins) slot ≡ cond t (row-after (row-at (b .logins) slot) Ticked) (row-at (b .logins) slot)
-    row-ticked b true e = ap (λ (t : Bool). row-at (cond t (swept-book (each-login b Ticked) Orphans) b .logins) slot) e ∙ at-map (λ r. row-after r Ticked) refl (b .logins) slot
-    row-ticked b false e = ap (λ (t : Bool). row-at (cond t (swept-book (each-login b Ticked) Orphans) b .logins) slot) e
-
-    module _ (x y : Snapshot B A) (source : NodeId) (q : Asked) (a : Answer) (step : Step m n x (Request source q) a y) where
-      by-answer : (t : Bool) → reconnects (slot + 1) (asked source q) a ≡ t → reconnects (slot + 1) (asked source q) (answer-of (outcome (scene m n x) source q)) ≡ t
-      by-answer t p = ap (λ (z : Answer). reconnects (slot + 1) (asked source q) z) (sym (step .0)) ∙ p
-
-      reconnected : reconnects (slot + 1) (asked source q) a ≡ true → reserved (row y) ≡ false
-      reconnected p =
-          ap reserved (row-as y _ (step .2)) ∙ reconnect-ends-the-wait (scene m n x) slot (lawful .none-shows-nobody (x .bus)) source q (by-answer true p)
-
-      pub calmed : reconnects (slot + 1) (asked source q) a ≡ false → Calm (row x) (row y)
-      calmed p =
-          subst (Calm (row x)) (sym (row-as y _ (step .2))) (request-leaves-reserved (scene m n x) slot (lawful .none-shows-nobody (x .bus)) source q (by-answer false p))
-
-    -- no call but a reset or a net update makes a login reserved
-    pub reserves-none : (x : Snapshot B A) (call : Call N) (a : Answer) (y : Snapshot B A) → Step m n x call a y → (kind call ≡ restart → ⊥)
-        → reserved (row x) ≡ false → reserved (row y) ≡ false
-    reserves-none x (Request source q) a y step e h = go (reconnects (slot + 1) (asked source q) a) refl where
-      go : (t : Bool) → reconnects (slot + 1) (asked source q) a ≡ t → reserved (row y) ≡ false
-      go true p = reconnected x y source q a step p
-      go false p = calmed x y source q a step p .none-new h
-    reserves-none x BusReset a y step e h = absurd (e refl)
-    reserves-none x NetUpdate a y step e h = absurd (e refl)
-    reserves-none x Gap a y step e h = ap reserved (row-as y _ (step .2)) ∙ h
-    reserves-none x Tick a y step e h = go (x .book .ticking) refl where
-      go : (t : Bool) → x .book .ticking ≡ t → reserved (row y) ≡ false
-      go true p = ap reserved (row-as y _ (step .2) ∙ row-ticked (x .book) true p) ∙ tick-reserves-none (row x) h
-      go false p = ap reserved (row-as y _ (step .2) ∙ row-ticked (x .book) false p) ∙ h
-    reserves-none x AccessChange a y step e h =
-        ap reserved (row-as y _ (step .3) ∙ at-map (kept-row (n .admits (y .list))) refl (x .book .logins) slot) ∙ change-reserves-none (n .admits (y .list)) (row x) h
-    reserves-none x (BusNote node eui) a y step e h = ap reserved (row-as y _ (step .4)) ∙ h
-    reserves-none x (AccessNote note) a y step e h = ap reserved (row-as y _ (step .4)) ∙ h
 
     abbrev event : Call N → Answer → Snapshot B A → Event B A N
     event call a y = record { call = call; answer = a; after = y }
@@ -160,7 +75,7 @@ module _ {B A N : Type 0} (m : BusModel B) (n : AccessModel A N) (lawful : Lawfu
         stays-over : Step m n x call a y → (kind call ≡ restart → ⊥) → Down es x → Down (event call a y ∷ es) y
         stays-over step e d =
             record {
-              unreserved = reserves-none x call a y step e (d .unreserved);
+              unreserved = reserves-none m n lawful slot x call a y step e (d .unreserved);
               over = λ k. d .over (record { unclaimed = k .unclaimed .1; admitted = k .admitted .1; in-time = let t = k .in-time in omega arith });
               ended = λ c. inr (d .ended (c .1));
             }
@@ -176,13 +91,13 @@ module _ {B A N : Type 0} (m : BusModel B) (n : AccessModel A N) (lawful : Lawfu
           go true p =
               inr (
               record {
-                unreserved = reconnected x y source q a step p;
+                unreserved = reconnected m n lawful slot x y source q a step p;
                 over = λ k. both-ways (reconnects (slot + 1) (asked source q) a) (k .unclaimed .0) p;
                 ended = λ c. absurd (both-ways (reconnects (slot + 1) (asked source q) a) (c .0) p);
               }
               )
           go false p =
-              inl (stays x y (asked source q) a es p (λ h. absurd (let z : _≡_ {A = ℕ} 0 1 = cc in omega arith)) refl (calmed x y source q a step p .stays (up-is-reserved es x u)) u)
+              inl (stays x y (asked source q) a es p (λ h. absurd (let z : _≡_ {A = ℕ} 0 1 = cc in omega arith)) refl (calmed m n lawful slot x y source q a step p .stays (up-is-reserved es x u)) u)
 
         abbrev left : ℕ
         left = l .hold + 2 - ticks-after-gap es
@@ -215,19 +130,19 @@ module _ {B A N : Type 0} (m : BusModel B) (n : AccessModel A N) (lawful : Lawfu
           go : (t : Bool) → gap-came es ≡ t → Next Tick a y es
           go true came =
               counted (
-              row-as y _ (step .2) ∙ row-ticked (x .book) true (now ∙ came) ∙ tick-of-reserved (row x) (up-is-reserved es x u) ∙ ap ticked (u .as-left)
+              row-as m n lawful slot y _ (step .2) ∙ row-ticked m n lawful slot (x .book) true (now ∙ came) ∙ tick-of-reserved (row x) (up-is-reserved es x u) ∙ ap ticked (u .as-left)
               ) came
           go false came =
               inl (
               stays x y Tick a es refl (λ h. absurd (let z : _≡_ {A = ℕ} 0 1 = cc in omega arith)) came (
-              row-as y _ (step .2) ∙ row-ticked (x .book) false (now ∙ came)
+              row-as m n lawful slot y _ (step .2) ∙ row-ticked m n lawful slot (x .book) false (now ∙ came)
               ) u
               )
 
         change-next : Step m n x AccessChange a y → Next AccessChange a y es
         change-next step = go (n .admits (y .list) (l .«owner_eui_64») (l .unit)) refl where
           after : row y ≡ kept-row (n .admits (y .list)) (moved l nowhere left)
-          after = row-as y _ (step .3) ∙ at-map (kept-row (n .admits (y .list))) refl (x .book .logins) slot ∙ ap (kept-row (n .admits (y .list))) (u .as-left)
+          after = row-as m n lawful slot y _ (step .3) ∙ at-map (kept-row (n .admits (y .list))) refl (x .book .logins) slot ∙ ap (kept-row (n .admits (y .list))) (u .as-left)
 
           go : (t : Bool) → n .admits (y .list) (l .«owner_eui_64») (l .unit) ≡ t → Next AccessChange a y es
           go true p =
@@ -247,11 +162,11 @@ module _ {B A N : Type 0} (m : BusModel B) (n : AccessModel A N) (lawful : Lawfu
         next (Request source q) step e now = request-next source q step
         next BusReset step e now = absurd (e refl)
         next NetUpdate step e now = absurd (e refl)
-        next Gap step e now = inl (stays x y Gap a es refl (λ h. absurd (let z : _≡_ {A = ℕ} 0 1 = cc in omega arith)) refl (row-as y _ (step .2)) u)
+        next Gap step e now = inl (stays x y Gap a es refl (λ h. absurd (let z : _≡_ {A = ℕ} 0 1 = cc in omega arith)) refl (row-as m n lawful slot y _ (step .2)) u)
         next Tick step e now = tick-next step now
         next AccessChange step e now = change-next step
-        next (BusNote node eui) step e now = inl (stays x y (BusNote node eui) a es refl (λ h. absurd (let z : _≡_ {A = ℕ} 0 1 = cc in omega arith)) refl (row-as y _ (step .4)) u)
-        next (AccessNote note) step e now = inl (stays x y (AccessNote note) a es refl (λ h. absurd (let z : _≡_ {A = ℕ} 0 1 = cc in omega arith)) refl (row-as y _ (step .4)) u)
+        next (BusNote node eui) step e now = inl (stays x y (BusNote node eui) a es refl (λ h. absurd (let z : _≡_ {A = ℕ} 0 1 = cc in omega arith)) refl (row-as m n lawful slot y _ (step .4)) u)
+        next (AccessNote note) step e now = inl (stays x y (AccessNote note) a es refl (λ h. absurd (let z : _≡_ {A = ℕ} 0 1 = cc in omega arith)) refl (row-as m n lawful slot y _ (step .4)) u)
 
       -- either way, and ticks count from the first gap on
       record Tracked (since : List (Event B A N)) (now : Snapshot B A) : Type 0 where
@@ -266,7 +181,7 @@ module _ {B A N : Type 0} (m : BusModel B) (n : AccessModel A N) (lawful : Lawfu
           let x = now-at first es in
           let before = track first off begun es (calm .1) (run .0) in
           record {
-            ticking = ticking-step x (e .call) (e .answer) (e .after) (run .1) (calm .0) ∙ ap (λ (b : Bool). is-gap (kind (e .call)) || b) (before .ticking);
+            ticking = ticking-step m n lawful slot x (e .call) (e .answer) (e .after) (run .1) (calm .0) ∙ ap (λ (b : Bool). is-gap (kind (e .call)) || b) (before .ticking);
             which = elim (before .which) [
               | inl u ↦ next x (e .after) (e .answer) es u (e .call) (run .1) (calm .0) (before .ticking)
               | inr d ↦ inr (stays-over x (e .after) (e .call) (e .answer) es (run .1) (calm .0) d)
@@ -303,7 +218,7 @@ module _ {B A N : Type 0} (m : BusModel B) (n : AccessModel A N) (lawful : Lawfu
   pub holds-kept : Holds-kept New (λ hold. hold + 2) m n
   holds-kept start new before last since restarts calm run slot h =
       let earlier = earlier-part start since last before run in
-      let begun = restart-begins slot (now-at start before) (last .call) (last .answer) (last .after) (earlier .1) restarts in
+      let begun = restart-begins m n lawful slot (now-at start before) (last .call) (last .answer) (last .after) (earlier .1) restarts in
       let l = row-at (last .after .book .logins) slot in
       let now = now-at (last .after) since in
       subst (λ (hold : ℕ). Hold-kept n slot l (hold + 2) since now) (hold-at-restart m n slot start new before last restarts earlier (held slot l h)) (

@@ -1,6 +1,6 @@
 -- After every run a holder's hold is that of its last granted login or update. Assumes nothing.
 use mathlib.Core.Bool.{Bool, true, false, cond}
-use mathlib.Core.List.{List, [], _∷_, map}
+use mathlib.Core.List.{List, _∷_, map}
 use mathlib.Core.Path.{_≡_, refl, sym, ap, subst, _∙_}
 use Prim.Native.Nat.{ℕ}
 use native.Mathlib.Omega.{arith}
@@ -9,10 +9,9 @@ use Rattle.bus.specs.Finding.{local-of}
 use Rattle.bus.specs.Meaning.{BusModel}
 use Rattle.access.specs.Meaning.{AccessModel}
 use Rattle.tables.specs.Books.{Book}
-use Rattle.tables.specs.Events.{kept-row, reset-row, each-login, swept-book, tick-counted}
+use Rattle.tables.specs.Events.{kept-row, reset-row}
 use Rattle.tables.specs.Logins.{holder, row-after}
 use Rattle.tables.specs.Rows.{logins-size, row-at}
-use Rattle.tables.specs.declared.rows.HandleSweep.the-variants.{Orphans}
 use Rattle.tables.specs.declared.rows.LoginEvent.the-variants.{Reset, NetUpdate as NetUpdated, Tick as Ticked}
 use Rattle.tables.specs.declared.rows.LoginRow.{LoginRow}
 use Rattle.rules.specs.Holds.{restart, kind, gives-hold, hold-in, last-hold}
@@ -24,7 +23,7 @@ use Rattle.rules.specs.declared.calls.Call.{Call}
 use Rattle.rules.specs.declared.calls.Call.the-variants.{Request, BusReset, NetUpdate, Gap, Tick, AccessChange, BusNote, AccessNote}
 use Rattle.rules.proofs.HoldGiving.{hold-as-asked, hold-as-before}
 use Rattle.rules.proofs.Running.{all-free}
-use Rattle.rules.proofs.Served.{either-book}
+use Rattle.rules.proofs.Walking.{either-book}
 use Rattle.rules.proofs.Thinning.{Like, like-same, like-after, like-kept, thinner-map}
 
 module _ {B A N : Type 0} (m : BusModel B) (n : AccessModel A N) (slot : ℕ) where

@@ -3,11 +3,13 @@ pub mod Counting
 pub mod Thinning
 pub mod Claims
 pub mod Granting
+pub mod Walking
 pub mod Served
 pub mod Running
 pub mod Calm
 pub mod Turning
 pub mod Restarting
+pub mod HoldSteps
 pub mod Holding
 pub mod HoldGiving
 pub mod LastHold

@@ -1,15 +1,15 @@
 -- Claims hold after every call, and so after every run. Assumes that the access list is lawful.
 use mathlib.Core.Bool.{Bool, true, false, cond, not, _&&_}
-use mathlib.Core.List.{List, [], _∷_, map}
-use mathlib.Core.Path.{_≡_, refl, sym, ap, subst, _∙_}
+use mathlib.Core.List.{List, _∷_, map}
+use mathlib.Core.Path.{_≡_, refl, sym, ap, subst}
 use Prim.Native.Nat.{ℕ, zero, suc}
 use lib.ListN.{replicate}
-use Rattle.std.proofs.shelf.Tests.{both-ways, not-false}
+use Rattle.std.proofs.shelf.Tests.{both-ways}
 use Rattle.bus.specs.Meaning.{BusModel}
 use Rattle.bus.specs.Finding.{local-of}
 use Rattle.access.specs.Meaning.{AccessModel, Lawful}
 use Rattle.reader.specs.declared.ids.Eui64.{Eui64}
-use Rattle.tables.specs.Books.{Book, new-book}
+use Rattle.tables.specs.Books.{Book}
 use Rattle.tables.specs.Events.{kept-row, reset-row, tick-counted}
 use Rattle.tables.specs.Logins.{holder, free-row, row-after}
 use Rattle.tables.specs.Rows.{logins-size, row-at}
@@ -21,7 +21,8 @@ use Rattle.rules.specs.declared.calls.Answer.{Answer}
 use Rattle.rules.specs.declared.calls.Call.{Call}
 use Rattle.rules.specs.declared.calls.Call.the-variants.{Request, BusReset, NetUpdate, Gap, Tick, AccessChange, BusNote, AccessNote}
 use Rattle.rules.proofs.Claims.{claims-thinner}
-use Rattle.rules.proofs.Served.{claims-after-request, either-book}
+use Rattle.rules.proofs.Served.{claims-after-request}
+use Rattle.rules.proofs.Walking.{either-book}
 use Rattle.rules.proofs.Thinning.{Like, like-after, like-kept, thinner-map}
 
 never : (r : LoginRow) → r ≡ free-row → holder r ≡ true → ⊥

@@ -1,9 +1,9 @@
 -- Claims hold after every request: a walk through the rules. Assumes nothing.
-use mathlib.Core.Bool.{Bool, true, false, cond, not, _&&_, _||_}
-use mathlib.Core.List.{List, []}
+use mathlib.Core.Bool.{Bool, true, false, not, _&&_, _||_}
+use mathlib.Core.List.{List}
 use mathlib.Core.Path.{_≡_, refl, sym, ap, subst, _∙_}
-use Prim.Native.Nat.{ℕ, _+_, _-_, _≤_}
-use lib.Dec.{eqb, leb, ltb}
+use Prim.Native.Nat.{ℕ, _-_}
+use lib.Dec.{eqb, ltb}
 use lib.ListN.{set}
 use Rattle.std.proofs.shelf.Tests.{or-parts, ltb-false, not-false}
 use Rattle.std.specs.declared.option.Option.{Option}
@@ -15,36 +15,23 @@ use Rattle.reader.specs.declared.request.Request.{Request}
 use Rattle.reader.specs.declared.request.Function.{Function}
 use Rattle.reader.specs.declared.request.Function.the-variants.{Login, QueryLogins, Reconnect, NodeHandle, Logout, Unknown}
 use Rattle.tables.specs.Books.{Book, put-login}
-use Rattle.tables.specs.Events.{given-login, given-handle, swept-book}
+use Rattle.tables.specs.Events.{given-login, given-handle}
 use Rattle.tables.specs.Logins.{free-row, row-after}
-use Rattle.tables.specs.Rows.{logins-size, handles-size, row-at, handle-at}
+use Rattle.tables.specs.Rows.{logins-size, row-at, handle-at}
 use Rattle.tables.specs.Searches.{among, count, first, meant, free-login, free-handle-place}
 use Rattle.tables.specs.declared.rows.Handle.{Handle}
-use Rattle.tables.specs.declared.rows.HandleSweep.the-variants.{AllOf}
 use Rattle.tables.specs.declared.rows.Holders.the-variants.{OfUnit, ExclusiveTo, Owning}
 use Rattle.tables.specs.declared.rows.LoginEvent.the-variants.{Reconnect as Reconnected}
-use Rattle.tables.specs.declared.rows.LoginRow.{LoginRow}
 use Rattle.tables.specs.declared.rows.WhichHandle.the-variants.{For, Own}
 use Rattle.rules.specs.Claims.{Claims}
-use Rattle.rules.specs.Handles.{node-of, query-outcome, allocate-new, allocate-in, allocate, release-one, release, handle-of, handle-outcome, shown-there, of-login}
-use Rattle.rules.specs.Logins.{unit-of, login-id, rejected, denied, new-row, login-at, login-in, login-outcome, updated-row, updated, aware-update, update-in, update-of, update-outcome, own-handle-moved, disputed, may-reconnect, reconnect-outcome, logout-of, logout-outcome}
+use Rattle.rules.specs.Handles.{allocate-new, allocate-in, handle-of, shown-there, of-login}
+use Rattle.rules.specs.Logins.{unit-of, login-id, rejected, denied, new-row, login-at, login-in, login-outcome, updated-row, updated, aware-update, update-in, update-of, disputed, may-reconnect, reconnect-outcome, logout-of}
 use Rattle.rules.specs.Scenes.{Scene, Outcome, refuse, grant, book-after, own-login}
 use Rattle.rules.specs.Serving.{unsupported, by-function, from, outcome}
 use Rattle.rules.proofs.Claims.{claims-thinner}
 use Rattle.rules.proofs.Granting.{claims-new, claims-updated}
+use Rattle.rules.proofs.Walking.{by-test, either-book, handle-leaves-logins, moved-leaves-logins}
 use Rattle.rules.proofs.Thinning.{like-after, like-free, thinner-set}
-
-pub either-book : (P : Book → Type 0) (t : Bool) (x y : Book) → P x → P y → P (cond t x y)
-either-book P true x y p q = p
-either-book P false x y p q = q
-
--- a handle that is given leaves the logins
-pub handle-leaves-logins : (b : Book) (place : ℕ) (h : Handle) → given-handle b place h .logins ≡ b .logins
-handle-leaves-logins b place h = either-book (λ x. x .logins ≡ b .logins) (ltb place handles-size) _ b refl refl
-
-pub moved-leaves-logins : (b : Book) (node : NodeId) (o : Option ℕ) → own-handle-moved b node o .logins ≡ b .logins
-moved-leaves-logins b node None = refl
-moved-leaves-logins b node (Some place) = refl
 
 -- where a test that is joined with a true one fails, the other fails
 second-fails : (a b : Bool) → (a && b) ≡ false → a ≡ true → b ≡ false
@@ -53,10 +40,6 @@ second-fails a b e t = sym (ap (λ (x : Bool). x && b) t) ∙ e
 -- claims hold after what came of a request
 record After (s : Scene) (o : Outcome) : Type 0 where
   claims : Claims (s .admits) (book-after (s .book) o .logins)
-
-by : {s : Scene} (b : Bool) (x y : Outcome) → (b ≡ true → After s x) → (b ≡ false → After s y) → After s (cond b x y)
-by true x y f g = f refl
-by false x y f g = g refl
 
 module _ (s : Scene) (c : Claims (s .admits) (s .book .logins)) where
   -- the logins as they were
@@ -92,11 +75,11 @@ module _ (s : Scene) (c : Claims (s .admits) (s .book .logins)) where
 
     login-in-claims : (o : Option ℕ) → After s (login-in s source eui q o)
     login-in-claims None = refused _
-    login-in-claims (Some slot) = by (q .aware) _ _ (λ e. login-at-claims slot (free-handle-place (s .book))) (λ e. record { claims = login-claims slot })
+    login-in-claims (Some slot) = by-test (After s) (q .aware) _ _ (λ e. login-at-claims slot (free-handle-place (s .book))) (λ e. record { claims = login-claims slot })
 
   login-after : (source : NodeId) (eui : Eui64) (q : Request) → After s (login-outcome s source eui q)
   login-after source eui q =
-      by (ltb 3 (unit-of q)) _ _ (λ e. refused _) (λ e. by (rejected source q) _ _ (λ e. refused _) (λ e. by (denied s eui q) _ _ (λ e. refused _) (λ ok. login-in-claims source eui q ok (free-login (s .book)))))
+      by-test (After s) (ltb 3 (unit-of q)) _ _ (λ e. refused _) (λ e. by-test (After s) (rejected source q) _ _ (λ e. refused _) (λ e. by-test (After s) (denied s eui q) _ _ (λ e. refused _) (λ ok. login-in-claims source eui q ok (free-login (s .book)))))
 
   module _ (q : Request) (slot : ℕ)
       (alone : disputed s q slot ≡ false) where
@@ -110,19 +93,19 @@ module _ (s : Scene) (c : Claims (s .admits) (s .book .logins)) where
 
     update-in-claims : After s (update-in s q slot (row-at (s .book .logins) slot))
     update-in-claims =
-        by (q .aware) _ _ (λ e. by (row-at (s .book .logins) slot .aware) _ _ (λ e. record { claims = update-claims }) (λ e. aware-claims (free-handle-place (s .book)))) (
+        by-test (After s) (q .aware) _ _ (λ e. by-test (After s) (row-at (s .book .logins) slot .aware) _ _ (λ e. record { claims = update-claims }) (λ e. aware-claims (free-handle-place (s .book)))) (
         λ e. record { claims = either-book (λ b. Claims (s .admits) (b .logins)) (row-at (s .book .logins) slot .aware) _ _ update-claims update-claims }
         )
 
   update-after : (source : NodeId) (q : Request) (o : Option ℕ) → After s (update-of s source q o)
   update-after source q None = refused _
-  update-after source q (Some slot) = by (rejected source q) _ _ (λ e. refused _) (λ e. by (disputed s q slot) _ _ (λ e. refused _) (λ alone. update-in-claims q slot alone))
+  update-after source q (Some slot) = by-test (After s) (rejected source q) _ _ (λ e. refused _) (λ e. by-test (After s) (disputed s q slot) _ _ (λ e. refused _) (λ alone. update-in-claims q slot alone))
 
   reconnect-after : (source : NodeId) (eui : Eui64) (q : Request) → After s (reconnect-outcome s source eui q)
   reconnect-after source eui q =
       let row = row-at (s .book .logins) (login-id q - 1) in
       let put = put-login (s .book) (login-id q - 1) (row-after row (Reconnected source)) in
-      by (may-reconnect s eui q) _ _ (
+      by-test (After s) (may-reconnect s eui q) _ _ (
       λ e. record {
         claims = subst (Claims (s .admits)) (sym (moved-leaves-logins put source (first (meant (login-id q) Own) 0 (s .book .handles)))) (
             claims-thinner (s .admits) (s .book .logins) (put .logins) (thinner-set (s .book .logins) (login-id q - 1) _ (like-after row (Reconnected source))) c
@@ -146,23 +129,23 @@ module _ (s : Scene) (c : Claims (s .admits) (s .book .logins)) where
   handle-after : (q : Request) (o : Option ℕ) → After s (handle-of s q o)
   handle-after q None = refused _
   handle-after q (Some slot) =
-      by (row-at (s .book .logins) slot .aware) _ _ (
-      λ e. by (q .«exclusive_or_allocate») _ _ (
-      λ e. by (ltb (q .«response_length») 4) _ _ (λ e. refused _) (
-      λ e. by (shown-there s q) _ _ (λ e. allocate-after q (first (meant (login-id q) (For (q .«eui_64»))) 0 (s .book .handles))) (λ e. refused _)
+      by-test (After s) (row-at (s .book .logins) slot .aware) _ _ (
+      λ e. by-test (After s) (q .«exclusive_or_allocate») _ _ (
+      λ e. by-test (After s) (ltb (q .«response_length») 4) _ _ (λ e. refused _) (
+      λ e. by-test (After s) (shown-there s q) _ _ (λ e. allocate-after q (first (meant (login-id q) (For (q .«eui_64»))) 0 (s .book .handles))) (λ e. refused _)
       )
       ) (
-      λ e. by (eqb (q .«node_or_handle») 0xFFFF) _ _ (λ e. same _ _ refl) (
-      λ e. by (of-login s q (q .«node_or_handle» - 1)) _ _ (
-      λ e. by (handle-at (s .book .handles) (q .«node_or_handle» - 1) .own) _ _ (λ e. refused _) (λ e. same _ _ refl)
+      λ e. by-test (After s) (eqb (q .«node_or_handle») 0xFFFF) _ _ (λ e. same _ _ refl) (
+      λ e. by-test (After s) (of-login s q (q .«node_or_handle» - 1)) _ _ (
+      λ e. by-test (After s) (handle-at (s .book .handles) (q .«node_or_handle» - 1) .own) _ _ (λ e. refused _) (λ e. same _ _ refl)
       ) (λ e. refused _)
       )
       )
       ) (λ e. refused _)
 
   function-after : (f : Function) (source : NodeId) (eui : Eui64) (q : Request) → After s (by-function f s source eui q)
-  function-after Login source eui q = by (q .update) _ _ (λ e. update-after source q (own-login (s .book) source (login-id q))) (λ e. login-after source eui q)
-  function-after QueryLogins source eui q = by (ltb 3 (unit-of q)) _ _ (λ e. refused _) (λ e. by (ltb (q .«response_length») 4) _ _ (λ e. refused _) (λ e. same _ _ refl))
+  function-after Login source eui q = by-test (After s) (q .update) _ _ (λ e. update-after source q (own-login (s .book) source (login-id q))) (λ e. login-after source eui q)
+  function-after QueryLogins source eui q = by-test (After s) (ltb 3 (unit-of q)) _ _ (λ e. refused _) (λ e. by-test (After s) (ltb (q .«response_length») 4) _ _ (λ e. refused _) (λ e. same _ _ refl))
   function-after Reconnect source eui q = reconnect-after source eui q
   function-after NodeHandle source eui q = handle-after q (own-login (s .book) source (login-id q))
   function-after Logout source eui q = logout-after (own-login (s .book) source (login-id q))
@@ -173,7 +156,7 @@ module _ (s : Scene) (c : Claims (s .admits) (s .book .logins)) where
   from-after (Some eui) source q = function-after (q .function) source eui q
 
   request-after : (source : NodeId) (q : Request) → After s (outcome s source q)
-  request-after source q = by (unsupported q) _ _ (λ e. refused _) (λ e. from-after (s .shows source) source q)
+  request-after source q = by-test (After s) (unsupported q) _ _ (λ e. refused _) (λ e. from-after (s .shows source) source q)
 
   pub claims-after-request : (source : NodeId) (q : Request) → Claims (s .admits) (book-after (s .book) (outcome s source q) .logins)
   claims-after-request source q = request-after source q .claims

@@ -1,9 +1,9 @@
 -- No request but a granted reconnect of it touches a reserved login, and none makes one. Assumes that FFFFh shows nobody.
-use mathlib.Core.Bool.{Bool, true, false, cond, not, _&&_}
-use mathlib.Core.List.{List, [], _∷_}
-use mathlib.Core.Logic.{_⊎_, inl, inr}
-use mathlib.Core.Path.{_≡_, refl, sym, ap, subst, _∙_}
-use Prim.Native.Nat.{ℕ, zero, suc, _+_, _-_, _≤_}
+use mathlib.Core.Bool.{Bool, true, false, not, _&&_}
+use mathlib.Core.List.{List}
+use mathlib.Core.Logic.{inl, inr}
+use mathlib.Core.Path.{_≡_, refl, ap, subst, _∙_}
+use Prim.Native.Nat.{ℕ, _+_, _-_, _≤_}
 use native.Mathlib.Omega.{arith}
 use lib.Dec.{eqb, leb, ltb}
 use lib.ListN.{set}
@@ -19,49 +19,23 @@ use Rattle.reader.specs.declared.request.Function.{Function}
 use Rattle.reader.specs.declared.request.Function.the-variants.{Login, QueryLogins, Reconnect, NodeHandle, Logout, Unknown}
 use Rattle.tables.specs.Books.{Book, put-login}
 use Rattle.tables.specs.Events.{given-login, given-handle, swept-book}
-use Rattle.tables.specs.Logins.{holder, reserved, free-row, moved, state, after-event, row-after}
-use Rattle.tables.specs.Rows.{logins-size, handles-size, row-at, handle-at}
+use Rattle.tables.specs.Logins.{holder, reserved, free-row, row-after}
+use Rattle.tables.specs.Rows.{logins-size, row-at, handle-at}
 use Rattle.tables.specs.Searches.{first, meant, free-login, free-handle-place}
 use Rattle.tables.specs.declared.rows.Handle.{Handle}
 use Rattle.tables.specs.declared.rows.HandleSweep.the-variants.{AllOf}
 use Rattle.tables.specs.declared.rows.LoginEvent.the-variants.{Reconnect as Reconnected}
 use Rattle.tables.specs.declared.rows.LoginRow.{LoginRow}
-use Rattle.tables.specs.declared.rows.LoginState.{LoginState}
-use Rattle.tables.specs.declared.rows.LoginState.the-variants.{Free, Reserved, Active}
 use Rattle.tables.specs.declared.rows.WhichHandle.the-variants.{For, Own as OwnHandle}
 use Rattle.tables.proofs.Places.{next-free-some}
 use Rattle.tables.proofs.Setting.{set-either}
 use Rattle.rules.specs.Handles.{allocate-new, allocate-in, handle-of, shown-there, of-login}
-use Rattle.rules.specs.Holds.{granted, is-reconnect, reconnects}
+use Rattle.rules.specs.Holds.{granted, is-reconnect}
 use Rattle.rules.specs.Logins.{unit-of, login-id, rejected, denied, new-row, login-at, login-in, login-outcome, updated-row, updated, aware-update, update-in, update-of, own-handle-moved, disputed, may-reconnect, logout-of}
 use Rattle.rules.specs.Scenes.{Scene, Outcome, refuse, grant, answer-of, book-after, own-login}
 use Rattle.rules.specs.Serving.{unsupported, by-function, from, outcome}
-use Rattle.rules.proofs.Calm.{Calm, Own, calm-same, calm-to, calm-set, unheld-unreserved, active-unreserved, own-is-active}
-use Rattle.rules.proofs.Served.{either-book, handle-leaves-logins, moved-leaves-logins}
-
--- what is written over a holder is there
-pub set-held : (rows : List LoginRow) (k : ℕ) (t : LoginRow) → holder (row-at rows k) ≡ true → row-at (set rows k t) k ≡ t
-set-held [] k t h = absurd (both-ways false refl h)
-set-held (r ∷ rows) zero t h = refl
-set-held (r ∷ rows) (suc k) t h = set-held rows k t h
-
--- a holder that reconnects at a node is not reserved
-returned : (r : LoginRow) (source : NodeId) → holder r ≡ true → none-id source ≡ false → reserved (row-after r (Reconnected source)) ≡ false
-returned r source held at-node = go (none-eui (r .«owner_eui_64»)) (none-id (r .«owner_id»)) refl where
-  there : reserved (moved r source 0) ≡ false
-  there = ap (λ (b : Bool). not (none-eui (r .«owner_eui_64»)) && b) at-node ∙ and-right (not (none-eui (r .«owner_eui_64»))) false refl
-
-  go : (e i : Bool) → none-eui (r .«owner_eui_64») ≡ e → reserved (after-event (cond e Free (cond i Reserved Active)) (Reconnected source) r) ≡ false
-  go true i p = absurd (both-ways (holder r) (ap not p) held)
-  go false true p = there
-  go false false p = there
-
-handle-leaves-ticking : (b : Book) (place : ℕ) (h : Handle) → given-handle b place h .ticking ≡ b .ticking
-handle-leaves-ticking b place h = either-book (λ x. x .ticking ≡ b .ticking) (ltb place handles-size) _ b refl refl
-
-moved-leaves-ticking : (b : Book) (node : NodeId) (o : Option ℕ) → own-handle-moved b node o .ticking ≡ b .ticking
-moved-leaves-ticking b node None = refl
-moved-leaves-ticking b node (Some place) = refl
+use Rattle.rules.proofs.Calm.{Calm, Own, calm-same, calm-to, calm-set, unheld-unreserved, active-unreserved, own-is-active, set-held, returned}
+use Rattle.rules.proofs.Walking.{by-test, either-book, handle-leaves-logins, handle-leaves-ticking, moved-leaves-logins, moved-leaves-ticking}
 
 module _ (s : Scene) (k : ℕ) where
   -- the row of the slot after what came of a request
@@ -75,10 +49,6 @@ module _ (s : Scene) (k : ℕ) where
 
   record Turned (o : Outcome) : Type 0 where
     quiet : Quiet (book-after (s .book) o)
-
-  choose : (b : Bool) (x y : Outcome) → (b ≡ true → Turned x) → (b ≡ false → Turned y) → Turned (cond b x y)
-  choose true x y f g = f refl
-  choose false x y f g = g refl
 
   quiet-same : Quiet (s .book)
   quiet-same = record { calm = calm-same (row-at (s .book .logins) k); ticking = refl }
@@ -124,11 +94,11 @@ module _ (s : Scene) (k : ℕ) where
 
       login-in-turns : (o : Option ℕ) → free-login (s .book) ≡ o → Turned (login-in s source eui q o)
       login-in-turns None found = left _
-      login-in-turns (Some slot) found = choose (q .aware) _ _ (λ e. login-at-turns slot found (free-handle-place (s .book))) (λ e. record { quiet = new-quiet slot found })
+      login-in-turns (Some slot) found = by-test Turned (q .aware) _ _ (λ e. login-at-turns slot found (free-handle-place (s .book))) (λ e. record { quiet = new-quiet slot found })
 
       login-turns : Turned (login-outcome s source eui q)
       login-turns =
-          choose (ltb 3 (unit-of q)) _ _ (λ e. left _) (λ e. choose (rejected source q) _ _ (λ e. left _) (λ e. choose (denied s eui q) _ _ (λ e. left _) (λ e. login-in-turns (free-login (s .book)) refl)))
+          by-test Turned (ltb 3 (unit-of q)) _ _ (λ e. left _) (λ e. by-test Turned (rejected source q) _ _ (λ e. left _) (λ e. by-test Turned (denied s eui q) _ _ (λ e. left _) (λ e. login-in-turns (free-login (s .book)) refl)))
 
   module _ (q : Request) (slot : ℕ) (own : Own (s .book) (login-id q) slot) where
     settled : reserved (row-at (s .book .logins) slot) ≡ false
@@ -146,14 +116,14 @@ module _ (s : Scene) (k : ℕ) where
 
     update-in-turns : Turned (update-in s q slot (row-at (s .book .logins) slot))
     update-in-turns =
-        choose (q .aware) _ _ (λ e. choose (row-at (s .book .logins) slot .aware) _ _ (λ e. record { quiet = updated-quiet }) (λ e. aware-turns (free-handle-place (s .book)))) (
+        by-test Turned (q .aware) _ _ (λ e. by-test Turned (row-at (s .book .logins) slot .aware) _ _ (λ e. record { quiet = updated-quiet }) (λ e. aware-turns (free-handle-place (s .book)))) (
         λ e. record { quiet = either-book Quiet (row-at (s .book .logins) slot .aware) _ _ swept-quiet updated-quiet }
         )
 
   update-turns : (source : NodeId) (q : Request) (o : Option ℕ) → own-login (s .book) source (login-id q) ≡ o → Turned (update-of s source q o)
   update-turns source q None e = left _
   update-turns source q (Some slot) e =
-      choose (rejected source q) _ _ (λ x. left _) (λ x. choose (disputed s q slot) _ _ (λ x. left _) (λ x. update-in-turns q slot (own-is-active (s .book) source (login-id q) slot e)))
+      by-test Turned (rejected source q) _ _ (λ x. left _) (λ x. by-test Turned (disputed s q slot) _ _ (λ x. left _) (λ x. update-in-turns q slot (own-is-active (s .book) source (login-id q) slot e)))
 
   logout-turns : (source : NodeId) (q : Request) (o : Option ℕ) → own-login (s .book) source (login-id q) ≡ o → Turned (logout-of s o)
   logout-turns source q None e = left _
@@ -171,15 +141,15 @@ module _ (s : Scene) (k : ℕ) where
   handle-turns : (q : Request) (o : Option ℕ) → Turned (handle-of s q o)
   handle-turns q None = left _
   handle-turns q (Some slot) =
-      choose (row-at (s .book .logins) slot .aware) _ _ (
-      λ e. choose (q .«exclusive_or_allocate») _ _ (
-      λ e. choose (ltb (q .«response_length») 4) _ _ (λ e. left _) (
-      λ e. choose (shown-there s q) _ _ (λ e. allocate-turns q (first (meant (login-id q) (For (q .«eui_64»))) 0 (s .book .handles))) (λ e. left _)
+      by-test Turned (row-at (s .book .logins) slot .aware) _ _ (
+      λ e. by-test Turned (q .«exclusive_or_allocate») _ _ (
+      λ e. by-test Turned (ltb (q .«response_length») 4) _ _ (λ e. left _) (
+      λ e. by-test Turned (shown-there s q) _ _ (λ e. allocate-turns q (first (meant (login-id q) (For (q .«eui_64»))) 0 (s .book .handles))) (λ e. left _)
       )
       ) (
-      λ e. choose (eqb (q .«node_or_handle») 0xFFFF) _ _ (λ e. same _ _ refl refl) (
-      λ e. choose (of-login s q (q .«node_or_handle» - 1)) _ _ (
-      λ e. choose (handle-at (s .book .handles) (q .«node_or_handle» - 1) .own) _ _ (λ e. left _) (λ e. same _ _ refl refl)
+      λ e. by-test Turned (eqb (q .«node_or_handle») 0xFFFF) _ _ (λ e. same _ _ refl refl) (
+      λ e. by-test Turned (of-login s q (q .«node_or_handle» - 1)) _ _ (
+      λ e. by-test Turned (handle-at (s .book .handles) (q .«node_or_handle» - 1) .own) _ _ (λ e. left _) (λ e. same _ _ refl refl)
       ) (λ e. left _)
       )
       )
@@ -194,10 +164,6 @@ module _ (s : Scene) (k : ℕ) where
     pub ticking : book-after (s .book) o .ticking ≡ s .book .ticking
     pub taken : takes f q o ≡ true → reserved (row-then o) ≡ false
     pub left-alone : takes f q o ≡ false → Calm (row-at (s .book .logins) k) (row-then o)
-
-  either-told : (f : Function) (q : Request) (b : Bool) (x y : Outcome) → (b ≡ true → Told f q x) → (b ≡ false → Told f q y) → Told f q (cond b x y)
-  either-told f q true x y g h = g refl
-  either-told f q false x y g h = h refl
 
   told-refused : (f : Function) (q : Request) (r : Refusal) → Told f q (refuse r)
   told-refused f q r = record { ticking = refl; taken = λ h. absurd (both-ways false refl h); left-alone = λ h. calm-same (row-at (s .book .logins) k) }
@@ -240,11 +206,11 @@ module _ (s : Scene) (k : ℕ) where
   module _ (none-shows-nobody : (i : NodeId) → none-id i ≡ true → s .shows i ≡ None) (source : NodeId) (q : Request) where
     function-told : (f : Function) (eui : Eui64) → s .shows source ≡ Some eui → Told f q (by-function f s source eui q)
     function-told Login eui there =
-        told-calm Login q _ refl (choose (q .update) _ _ (λ e. update-turns source q (own-login (s .book) source (login-id q)) refl) (λ e. login-turns none-shows-nobody source eui q there))
+        told-calm Login q _ refl (by-test Turned (q .update) _ _ (λ e. update-turns source q (own-login (s .book) source (login-id q)) refl) (λ e. login-turns none-shows-nobody source eui q there))
     function-told QueryLogins eui there =
-        told-calm QueryLogins q _ refl (choose (ltb 3 (unit-of q)) _ _ (λ e. left _) (λ e. choose (ltb (q .«response_length») 4) _ _ (λ e. left _) (λ e. same _ _ refl refl)))
+        told-calm QueryLogins q _ refl (by-test Turned (ltb 3 (unit-of q)) _ _ (λ e. left _) (λ e. by-test Turned (ltb (q .«response_length») 4) _ _ (λ e. left _) (λ e. same _ _ refl refl)))
     function-told Reconnect eui there =
-        either-told Reconnect q (may-reconnect s eui q) _ _ (
+        by-test (Told Reconnect q) (may-reconnect s eui q) _ _ (
         λ may. reconnect-told source eui q (somewhere none-shows-nobody source eui there) may (first (meant (login-id q) OwnHandle) 0 (s .book .handles))
         ) (λ e. told-refused Reconnect q _)
     function-told NodeHandle eui there = told-calm NodeHandle q _ refl (handle-turns q (own-login (s .book) source (login-id q)))
@@ -256,7 +222,7 @@ module _ (s : Scene) (k : ℕ) where
     from-told (Some eui) there = function-told (q .function) eui there
 
     request-told : Told (q .function) q (outcome s source q)
-    request-told = either-told (q .function) q (unsupported q) _ _ (λ e. told-refused (q .function) q _) (λ e. from-told (s .shows source) refl)
+    request-told = by-test (Told (q .function) q) (unsupported q) _ _ (λ e. told-refused (q .function) q _) (λ e. from-told (s .shows source) refl)
 
     pub reconnect-ends-the-wait : takes (q .function) q (outcome s source q) ≡ true → reserved (row-at (book-after (s .book) (outcome s source q) .logins) k) ≡ false
     reconnect-ends-the-wait = request-told .taken

@@ -1,4 +1,4 @@
-use Rattle.rules.proofs.Holding.{calmed}
+use Rattle.rules.proofs.HoldSteps.{calmed}
 use Rattle.rules.proofs.laws.only_its_reconnect_touches_a_reserved_login.Needs as need
 
 pub returns : need.returns

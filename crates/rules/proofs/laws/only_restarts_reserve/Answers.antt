@@ -1,4 +1,4 @@
-use Rattle.rules.proofs.Holding.{reserves-none}
+use Rattle.rules.proofs.HoldSteps.{reserves-none}
 use Rattle.rules.proofs.laws.only_restarts_reserve.Needs as need
 
 pub returns : need.returns
