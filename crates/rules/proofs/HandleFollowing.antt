@@ -1,29 +1,29 @@
 -- What each event makes of one login or one handle: the same one or a free one, shown where it is. Assumes that the bus is lawful.
 use mathlib.Core.Bool.{Bool, true, false, cond, not, _&&_}
 use mathlib.Core.Logic.{inl, inr}
-use mathlib.Core.Path.{_≡_, refl, sym, ap, subst, _∙_}
-use Prim.Native.Nat.{ℕ, zero, suc, _+_, _-_, _<_, _%_}
+use mathlib.Core.Path.{_≡_, refl, _∙_}
+use Prim.Native.Nat.{ℕ, _<_, _%_}
 use native.Mathlib.Omega.{arith}
 use lib.Dec.{eqb, leb, ltb}
-use Rattle.std.proofs.shelf.Tests.{both-ways, and-from, and-cases, cases-bool, not-from-true, not-from-false, lt-ltb, leb-false, ltb-false, cond-both}
+use Rattle.std.proofs.shelf.Tests.{both-ways, and-from, and-cases, cases-bool, not-from-true, not-from-false, lt-ltb, leb-false, cond-both}
 use Rattle.std.specs.Options.{valueOr}
 use Rattle.std.specs.declared.option.Option.{Option}
 use Rattle.std.specs.declared.option.Option.the-variants.{Some, None}
-use Rattle.reader.specs.Ids.{none-id, none-eui, local, broadcast, global}
+use Rattle.reader.specs.Ids.{none-id, none-eui, local}
 use Rattle.reader.specs.declared.ids.NodeId.{NodeId}
 use Rattle.reader.specs.declared.ids.Eui64.{Eui64}
 use Rattle.bus.specs.Finding.{Finds, local-of}
 use Rattle.bus.specs.Meaning.{BusModel, Lawful}
 use Rattle.bus.proofs.Finding.{local-of-finds}
 use Rattle.tables.specs.Events.{kept-row, reset-row, reset-handle, handle-to}
-use Rattle.tables.specs.Logins.{holder, free-row, moved, held-back, followed, ticked, after-event, row-after, nowhere}
+use Rattle.tables.specs.Logins.{holder, free-row, moved, held-back, followed, after-event, row-after, nowhere}
 use Rattle.tables.specs.Rows.{in-use}
 use Rattle.tables.specs.declared.rows.Handle.{Handle}
 use Rattle.tables.specs.declared.rows.LoginEvent.{LoginEvent}
 use Rattle.tables.specs.declared.rows.LoginEvent.the-variants.{Reset, NetUpdate, Tick, Reconnect}
 use Rattle.tables.specs.declared.rows.LoginRow.{LoginRow}
 use Rattle.tables.specs.declared.rows.LoginState.the-variants.{Free, Reserved, Active}
-use Rattle.rules.proofs.HandleThinning.{Owner-shown, Handle-shown, Still, Follows}
+use Rattle.rules.proofs.HandleThinning.{Owner-shown, Handle-shown, Follows}
 
 -- the same holder or a free login, as aware as it was, and shown
 pub record Next (shows : NodeId → Option Eui64) (r t : LoginRow) : Type 0 where

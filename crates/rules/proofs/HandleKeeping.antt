@@ -1,10 +1,9 @@
 -- One login or one handle written over by the same one, and tables that keep their sizes. Assumes nothing.
-use mathlib.Core.Bool.{Bool, true, false}
+use mathlib.Core.Bool.{true}
 use mathlib.Core.List.{List}
 use mathlib.Core.Logic.{inl, inr}
 use mathlib.Core.Path.{_≡_, refl, sym, ap, subst, _∙_}
-use Prim.Native.Nat.{ℕ, _<_, _≤_}
-use native.Mathlib.Omega.{arith}
+use Prim.Native.Nat.{ℕ, _<_}
 use lib.ListN.{length, getD, set}
 use Rattle.std.proofs.shelf.Lists.{getD-past}
 use Rattle.std.proofs.shelf.Tests.{both-ways, cases-lt}
@@ -20,7 +19,7 @@ use Rattle.tables.proofs.Setting.{set-either}
 use Rattle.rules.specs.HandleClaims.{Handle-claims}
 use Rattle.rules.proofs.HandleFollowing.{Next, next-same}
 use Rattle.rules.proofs.HandleSweeping.{aware-stays}
-use Rattle.rules.proofs.HandleThinning.{Owner-shown, Handle-shown, Same-handle, Remains, same-handle, claims-kept}
+use Rattle.rules.proofs.HandleThinning.{Handle-shown, Same-handle, Remains, same-handle, claims-kept}
 
 -- both tables have their sizes, and both searches begin at a place
 pub record Sized (b : Book) : Type 0 where

@@ -1,44 +1,34 @@
 -- What is promised of handles holds after a login. Assumes that nobody is shown as all ones.
-use mathlib.Core.Bool.{Bool, true, false, cond, not, _&&_}
-use mathlib.Core.List.{List, [], map}
+use mathlib.Core.Bool.{Bool, true, false, cond, _&&_}
+use mathlib.Core.List.{List}
 use mathlib.Core.Path.{_≡_, refl, sym, ap, subst, _∙_}
 use Prim.Native.Nat.{ℕ, _+_, _-_, _<_}
 use native.Mathlib.Omega.{arith}
 use lib.Dec.{eqb, leb, ltb}
 use lib.ListN.{length, set}
-use Rattle.std.proofs.shelf.Lists.{length-set, length-map}
-use Rattle.std.proofs.shelf.Tests.{both-ways, and-parts, eqb-true, leb-true, lt-ltb, not-from-false, cond-true}
+use Rattle.std.proofs.shelf.Lists.{length-set}
+use Rattle.std.proofs.shelf.Tests.{both-ways, and-parts, leb-true, lt-ltb, not-from-false, cond-true}
 use Rattle.std.specs.declared.option.Option.{Option}
 use Rattle.std.specs.declared.option.Option.the-variants.{Some, None}
-use Rattle.reader.specs.Ids.{none-eui, none-id}
+use Rattle.reader.specs.Ids.{none-eui}
 use Rattle.reader.specs.declared.ids.NodeId.{NodeId}
 use Rattle.reader.specs.declared.ids.Eui64.{Eui64}
 use Rattle.reader.specs.declared.refusal.Refusal.{Refusal}
 use Rattle.reader.specs.declared.request.Request.{Request}
-use Rattle.reader.specs.declared.request.Function.{Function}
-use Rattle.reader.specs.declared.request.Function.the-variants.{Login, QueryLogins, Reconnect, NodeHandle, Logout, Unknown}
-use Rattle.tables.specs.Books.{Book, put-login, put-handle}
-use Rattle.tables.specs.Events.{given-login, given-handle, handle-to, moved-handle, swept, swept-book, ended}
-use Rattle.tables.specs.Logins.{holder, active, free-row, row-after}
-use Rattle.tables.specs.Rows.{logins-size, handles-size, row-at, handle-at, free-handle, in-use}
-use Rattle.tables.specs.Searches.{first, meant, free-login, free-handle-place, after-place}
+use Rattle.tables.specs.Books.{Book}
+use Rattle.tables.specs.Events.{given-login, given-handle}
+use Rattle.tables.specs.Logins.{holder, active}
+use Rattle.tables.specs.Rows.{logins-size, handles-size, row-at, handle-at, in-use}
+use Rattle.tables.specs.Searches.{free-login, free-handle-place, after-place}
 use Rattle.tables.specs.declared.rows.Handle.{Handle}
-use Rattle.tables.specs.declared.rows.HandleSweep.the-variants.{AllOf, OthersOf}
-use Rattle.tables.specs.declared.rows.LoginEvent.the-variants.{Reconnect as Reconnected}
 use Rattle.tables.specs.declared.rows.LoginRow.{LoginRow}
-use Rattle.tables.specs.declared.rows.WhichHandle.the-variants.{For, Own}
 use Rattle.tables.proofs.Places.{next-free-some}
 use Rattle.rules.specs.HandleClaims.{Aware-holder, Handle-claims}
-use Rattle.rules.specs.Handles.{node-of, other-handle, query-outcome, allocate-new, allocate-in, allocate, release-one, release, handle-of, handle-outcome, shown-there, of-login}
-use Rattle.rules.specs.Logins.{unit-of, login-id, rejected, denied, new-row, own-handle, login-at, login-in, login-outcome, updated-row, updated, aware-update, update-in, update-of, update-outcome, own-handle-moved, disputed, may-reconnect, reconnect-outcome, logout-of, logout-outcome}
-use Rattle.rules.specs.Scenes.{Scene, Outcome, refuse, grant, book-after, own-login}
-use Rattle.rules.specs.Serving.{unsupported, by-function, from, outcome}
-use Rattle.rules.proofs.HandleFollowing.{Next, next-same, next-free-row, next-reconnected, owner-stays-at-reconnect}
-use Rattle.rules.proofs.HandleGiving.{claims-unaware, claims-aware, claims-other}
-use Rattle.rules.proofs.HandleKeeping.{Sized, sized-as, held-below, each-written, Handles-kept, all-kept, one-kept, claims-handles-kept, claims-row-kept}
-use Rattle.rules.proofs.HandlePlaces.{first-found, after-below, next-free-below, is-shown-some}
-use Rattle.rules.proofs.HandleSweeping.{free-is-not-in-use, claims-orphans, claims-others, claims-unaware-now}
-use Rattle.rules.proofs.HandleThinning.{Handle-shown, same-handle}
+use Rattle.rules.specs.Logins.{unit-of, rejected, denied, new-row, own-handle, login-at, login-in, login-outcome}
+use Rattle.rules.specs.Scenes.{Scene, Outcome, refuse, book-after, own-login}
+use Rattle.rules.proofs.HandleGiving.{claims-unaware, claims-aware}
+use Rattle.rules.proofs.HandleKeeping.{Sized, sized-as}
+use Rattle.rules.proofs.HandlePlaces.{after-below, next-free-below}
 
 -- what is promised, in tables of their sizes
 pub record Kept (shows : NodeId → Option Eui64) (b : Book) : Type 0 where
@@ -79,7 +69,7 @@ handle-put b place h =
 pub given-is-put : (b : Book) (place : ℕ) (h : Handle) → place < handles-size → given-handle b place h ≡ handle-put b place h
 given-is-put b place h l = cond-true (ltb place handles-size) (handle-put b place h) b (lt-ltb place handles-size l)
 
-module _ (s : Scene) (k : Kept (s .shows) (s .book)) (somebody : (i : NodeId) (e : Eui64) → s .shows i ≡ Some e → none-eui e ≡ false) where
+module _ (s : Scene) (k : Kept (s .shows) (s .book)) where
   abbrev rows : List LoginRow
   rows = s .book .logins
 
@@ -108,7 +98,7 @@ module _ (s : Scene) (k : Kept (s .shows) (s .book)) (somebody : (i : NodeId) (e
   pub place-in : (place : ℕ) → free-handle-place (s .book) ≡ Some place → place < length handles
   place-in place e = subst (λ (n : ℕ). place < n) (sym (k .sized .all-handles)) (place-below place e)
 
-  module _ (source : NodeId) (eui : Eui64) (q : Request) (there : s .shows source ≡ Some eui) where
+  module _ (source : NodeId) (eui : Eui64) (q : Request) (there : s .shows source ≡ Some eui) (somebody : none-eui eui ≡ false) where
     module _ (slot : ℕ) (e : free-login (s .book) ≡ Some slot) where
       abbrev with-row : Book
       with-row =
@@ -137,7 +127,7 @@ module _ (s : Scene) (k : Kept (s .shows) (s .book)) (somebody : (i : NodeId) (e
             kept = subst (Kept (s .shows)) (sym (ap (λ (b : Book). given-handle b place h) given-is ∙ given-is-put with-row place h (place-below place f))) (
                 record {
                   claims = claims-aware (s .shows) rows handles (k .claims) slot (new-row source eui q) place source (subst (λ (n : ℕ). slot < n) (sym (k .sized .all-logins)) slot-below) (place-in place f) was-not (place-free place f) (λ h l. there) (
-                      record { held = not-from-false (none-eui eui) (somebody source eui there); is-aware = a }
+                      record { held = not-from-false (none-eui eui) somebody; is-aware = a }
                       ) (λ u l. there);
                   sized = sized-as (s .book) (handle-put with-row place h) (k .sized) (length-set rows slot _) (length-set handles place h) (after-below logins-size slot (omega arith)) (after-below handles-size place (omega arith));
                 }

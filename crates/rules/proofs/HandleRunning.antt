@@ -1,10 +1,9 @@
 -- What is promised of handles holds after every call, and so after every run. Assumes that the bus is lawful.
-use mathlib.Core.Bool.{Bool, true, false}
+use mathlib.Core.Bool.{Bool, true}
 use mathlib.Core.List.{List, [], _∷_, map}
-use mathlib.Core.Path.{_≡_, refl, sym, ap, subst, _∙_}
-use Prim.Native.Nat.{ℕ, _<_}
+use mathlib.Core.Path.{_≡_, refl, sym, ap, subst}
+use Prim.Native.Nat.{ℕ}
 use native.Mathlib.Omega.{arith}
-use lib.ListN.{length, replicate}
 use Rattle.std.proofs.shelf.Lists.{length-map}
 use Rattle.std.proofs.shelf.Tests.{both-ways, cond-both}
 use Rattle.std.specs.declared.option.Option.{Option}
@@ -13,20 +12,19 @@ use Rattle.access.specs.Meaning.{AccessModel}
 use Rattle.reader.specs.declared.ids.NodeId.{NodeId}
 use Rattle.reader.specs.declared.ids.Eui64.{Eui64}
 use Rattle.tables.specs.Books.{Book, new-book, with-logins}
-use Rattle.tables.specs.Events.{swept-book, ticking-so, each-login, was-reset, net-updated, tick-counted, access-changed, reset-row, kept-row}
+use Rattle.tables.specs.Events.{swept-book, ticking-so, was-reset, net-updated, tick-counted, access-changed, kept-row}
 use Rattle.tables.specs.Logins.{holder, free-row, row-after}
 use Rattle.tables.specs.Rows.{logins-size, handles-size, row-at, handle-at, free-handle, in-use}
-use Rattle.tables.specs.declared.rows.Handle.{Handle}
 use Rattle.tables.specs.declared.rows.HandleSweep.the-variants.{Orphans}
-use Rattle.tables.specs.declared.rows.LoginEvent.the-variants.{NetUpdate as NetUpdated, Tick as Ticked}
+use Rattle.tables.specs.declared.rows.LoginEvent.the-variants.{Tick as Ticked}
 use Rattle.tables.specs.declared.rows.LoginRow.{LoginRow}
-use Rattle.rules.specs.HandleClaims.{Aware-holder, Handle-claims, Handles-hold}
+use Rattle.rules.specs.HandleClaims.{Handles-hold}
 use Rattle.rules.specs.Runs.{Snapshot, Event, Step, Run, New, now-at, scene}
 use Rattle.rules.specs.declared.calls.Answer.{Answer}
 use Rattle.rules.specs.declared.calls.Call.{Call}
 use Rattle.rules.specs.declared.calls.Call.the-variants.{Request, BusReset, NetUpdate, Gap, Tick, AccessChange, BusNote, AccessNote}
 use Rattle.rules.proofs.HandleFollowing.{Next, next-ticked, next-kept}
-use Rattle.rules.proofs.HandleKeeping.{Sized, sized-as}
+use Rattle.rules.proofs.HandleKeeping.{sized-as}
 use Rattle.rules.proofs.HandleLogins.{Kept}
 use Rattle.rules.proofs.HandlePlaces.{map-at, replicate-at}
 use Rattle.rules.proofs.HandleServed.{kept-after-request}

@@ -1,48 +1,43 @@
 -- What is promised of handles holds after every request: a walk through the rules. Assumes that nobody is shown as all ones.
-use mathlib.Core.Bool.{Bool, true, false, cond, not, _&&_}
-use mathlib.Core.List.{List, [], map}
+use mathlib.Core.Bool.{true, false}
+use mathlib.Core.List.{List}
 use mathlib.Core.Path.{_≡_, refl, sym, ap, subst, _∙_}
-use Prim.Native.Nat.{ℕ, _+_, _-_, _<_}
+use Prim.Native.Nat.{ℕ, _-_}
 use native.Mathlib.Omega.{arith}
-use lib.Dec.{eqb, leb, ltb}
+use lib.Dec.{eqb, ltb}
 use lib.ListN.{length, set}
 use Rattle.std.proofs.shelf.Lists.{length-set, length-map}
-use Rattle.std.proofs.shelf.Tests.{both-ways, and-parts, eqb-true, leb-true, lt-ltb, cond-both}
+use Rattle.std.proofs.shelf.Tests.{both-ways, and-parts, eqb-true}
 use Rattle.std.specs.declared.option.Option.{Option}
 use Rattle.std.specs.declared.option.Option.the-variants.{Some, None}
-use Rattle.reader.specs.Ids.{none-eui, none-id}
+use Rattle.reader.specs.Ids.{none-eui}
 use Rattle.reader.specs.declared.ids.NodeId.{NodeId}
 use Rattle.reader.specs.declared.ids.Eui64.{Eui64}
-use Rattle.reader.specs.declared.refusal.Refusal.{Refusal}
 use Rattle.reader.specs.declared.request.Request.{Request}
 use Rattle.reader.specs.declared.request.Function.{Function}
 use Rattle.reader.specs.declared.request.Function.the-variants.{Login, QueryLogins, Reconnect, NodeHandle, Logout, Unknown}
-use Rattle.tables.specs.Books.{Book, with-handles, put-login}
-use Rattle.tables.specs.Events.{given-login, given-handle, handle-to, moved-handle, swept, swept-book, ended}
-use Rattle.tables.specs.Logins.{holder, active, free-row, row-after}
-use Rattle.tables.specs.Rows.{logins-size, handles-size, row-at, handle-at, free-handle, in-use}
-use Rattle.tables.specs.Searches.{first, meant, free-login, free-handle-place, after-place}
+use Rattle.tables.specs.Books.{with-handles}
+use Rattle.tables.specs.Events.{ended}
+use Rattle.tables.specs.Logins.{free-row}
+use Rattle.tables.specs.Rows.{handles-size, row-at, handle-at, free-handle}
+use Rattle.tables.specs.Searches.{first, meant, free-handle-place}
 use Rattle.tables.specs.declared.rows.Handle.{Handle}
-use Rattle.tables.specs.declared.rows.HandleSweep.the-variants.{AllOf, OthersOf}
-use Rattle.tables.specs.declared.rows.LoginEvent.the-variants.{Reconnect as Reconnected}
 use Rattle.tables.specs.declared.rows.LoginRow.{LoginRow}
-use Rattle.tables.specs.declared.rows.WhichHandle.the-variants.{For, Own}
-use Rattle.tables.proofs.Places.{next-free-some}
+use Rattle.tables.specs.declared.rows.WhichHandle.the-variants.{For}
 use Rattle.rules.specs.HandleClaims.{Aware-holder, Handle-claims}
-use Rattle.rules.specs.Handles.{node-of, other-handle, query-outcome, allocate-new, allocate-in, allocate, release-one, release, handle-of, handle-outcome, shown-there, of-login}
-use Rattle.rules.specs.Logins.{unit-of, login-id, rejected, denied, new-row, own-handle, login-at, login-in, login-outcome, updated-row, updated, aware-update, update-in, update-of, update-outcome, own-handle-moved, disputed, may-reconnect, reconnect-outcome, logout-of, logout-outcome}
-use Rattle.rules.specs.Scenes.{Scene, Outcome, refuse, grant, book-after, own-login}
+use Rattle.rules.specs.Handles.{node-of, other-handle, allocate-new, allocate-in, allocate, release, handle-of, shown-there, of-login}
+use Rattle.rules.specs.Logins.{unit-of, login-id, logout-of}
+use Rattle.rules.specs.Scenes.{Scene, grant, book-after, own-login}
 use Rattle.rules.specs.Serving.{unsupported, by-function, from, outcome}
-use Rattle.rules.proofs.HandleFollowing.{Next, next-same, next-free-row, next-reconnected, owner-stays-at-reconnect}
-use Rattle.rules.proofs.HandleGiving.{claims-unaware, claims-aware, claims-other}
-use Rattle.rules.proofs.HandleKeeping.{Sized, sized-as, held-below, each-written, Handles-kept, all-kept, one-kept, claims-handles-kept, claims-row-kept}
-use Rattle.rules.proofs.HandlePlaces.{first-found, after-below, next-free-below, is-shown-some}
-use Rattle.rules.proofs.HandleSweeping.{free-is-not-in-use, claims-orphans, claims-others, claims-unaware-now}
-use Rattle.rules.proofs.HandleThinning.{Handle-shown, same-handle}
-use Rattle.rules.proofs.HandleLogins.{Kept, After, by, Named, named, handle-put, given-is-put, refused, kept-as, place-below, place-free, place-in, login-after}
+use Rattle.rules.proofs.HandleFollowing.{Next, next-same, next-free-row}
+use Rattle.rules.proofs.HandleGiving.{claims-other}
+use Rattle.rules.proofs.HandleKeeping.{sized-as, each-written, one-kept, claims-handles-kept}
+use Rattle.rules.proofs.HandlePlaces.{first-found, after-below, is-shown-some}
+use Rattle.rules.proofs.HandleSweeping.{free-is-not-in-use, claims-orphans, claims-others}
+use Rattle.rules.proofs.HandleLogins.{Kept, After, by, Named, named, handle-put, given-is-put, refused, kept-as, place-below, place-free, login-after}
 use Rattle.rules.proofs.HandleUpdates.{update-after, moved-kept, reconnect-after}
 
-module _ (s : Scene) (k : Kept (s .shows) (s .book)) (somebody : (i : NodeId) (e : Eui64) → s .shows i ≡ Some e → none-eui e ≡ false) where
+module _ (s : Scene) (k : Kept (s .shows) (s .book)) where
   abbrev rows : List LoginRow
   rows = s .book .logins
 
@@ -51,13 +46,13 @@ module _ (s : Scene) (k : Kept (s .shows) (s .book)) (somebody : (i : NodeId) (e
 
   -- a book whose handles alone are others
   handles-only : (bytes : List ℕ) (left : List Handle) → Handle-claims (s .shows) rows left → length left ≡ length handles → After s (grant bytes (with-handles (s .book) left))
-  handles-only bytes left c h = record { kept = kept-as s k somebody (with-handles (s .book) left) c refl h refl refl }
+  handles-only bytes left c h = record { kept = kept-as s k (with-handles (s .book) left) c refl h refl refl }
 
   logout-after : (o : Option ℕ) → After s (logout-of s o)
-  logout-after None = refused s k somebody _
+  logout-after None = refused s k _
   logout-after (Some slot) =
       record {
-        kept = kept-as s k somebody (ended (s .book) slot) (
+        kept = kept-as s k (ended (s .book) slot) (
             claims-orphans (s .shows) rows handles (k .claims) (set rows slot free-row) (
             each-written (λ i r. Next (s .shows) (row-at rows i) r) rows slot free-row free-row (next-free-row (s .shows) (row-at rows slot)) (
             λ i. next-same (s .shows) (row-at rows i) (k .claims .owner-is-shown i)
@@ -73,12 +68,12 @@ module _ (s : Scene) (k : Kept (s .shows) (s .book)) (somebody : (i : NodeId) (e
         subst (λ (j : ℕ). Aware-holder (row-at rows j)) z (record { held = mine .is-held; is-aware = aware })
 
     allocate-new-after : s .shows (node-of q) ≡ Some (q .«eui_64») → (o : Option ℕ) → free-handle-place (s .book) ≡ o → After s (allocate-new s q o)
-    allocate-new-after there None f = refused s k somebody _
+    allocate-new-after there None f = refused s k _
     allocate-new-after there (Some place) f =
         record {
-          kept = subst (Kept (s .shows)) (sym (given-is-put (s .book) place (other-handle q) (place-below s k somebody place f))) (
+          kept = subst (Kept (s .shows)) (sym (given-is-put (s .book) place (other-handle q) (place-below s k place f))) (
               record {
-                claims = claims-other (s .shows) rows handles (k .claims) place (other-handle q) (place-free s k somebody place f) its-login refl (λ u l. there);
+                claims = claims-other (s .shows) rows handles (k .claims) place (other-handle q) (place-free s k place f) its-login refl (λ u l. there);
                 sized = sized-as (s .book) (handle-put (s .book) place (other-handle q)) (k .sized) refl (length-set handles place _) (k .sized .next-slot) (after-below handles-size place (omega arith));
               }
               );
@@ -91,7 +86,7 @@ module _ (s : Scene) (k : Kept (s .shows) (s .book)) (somebody : (i : NodeId) (e
         let w = and-parts (eqb (h .login) (login-id q)) (eqb (h .«eui_64» .0) (q .«eui_64» .0)) (first-found (meant (login-id q) (For (q .«eui_64»))) handles place free-handle f) in
         handles-only _ _ (
         claims-handles-kept (s .shows) rows handles (k .claims) _ (
-        moved-kept s k somebody place (node-of q) (λ u l. there ∙ ap (λ (n : ℕ). Some (record { 0 = n })) (sym (eqb-true (h .«eui_64» .0) (q .«eui_64» .0) (w .1))))
+        moved-kept s k place (node-of q) (λ u l. there ∙ ap (λ (n : ℕ). Some (record { 0 = n })) (sym (eqb-true (h .«eui_64» .0) (q .«eui_64» .0) (w .1))))
         )
         ) (length-set handles place _)
 
@@ -102,45 +97,47 @@ module _ (s : Scene) (k : Kept (s .shows) (s .book)) (somebody : (i : NodeId) (e
         λ e. handles-only _ _ (claims-others (s .shows) rows handles (k .claims) (login-id q)) (length-map handles _)
         ) (
         λ e. by (of-login s q place) _ _ (
-        λ e. by (handle-at handles place .own) _ _ (λ e. refused s k somebody _) (
+        λ e. by (handle-at handles place .own) _ _ (λ e. refused s k _) (
         λ other. handles-only _ _ (
         claims-handles-kept (s .shows) rows handles (k .claims) _ (
         one-kept (s .shows) rows handles (k .claims) place free-handle (λ u. absurd (free-is-not-in-use u)) (λ u. absurd (free-is-not-in-use u)) (λ x. absurd (both-ways _ other x))
         )
         ) (length-set handles place _)
         )
-        ) (λ e. refused s k somebody _)
+        ) (λ e. refused s k _)
         )
 
     allocate-after : After s (allocate s q)
     allocate-after =
-        by (ltb (q .«response_length») 4) _ _ (λ e. refused s k somebody _) (
+        by (ltb (q .«response_length») 4) _ _ (λ e. refused s k _) (
         λ e. by (shown-there s q) _ _ (
         λ there. allocate-in-after (is-shown-some (s .shows (node-of q)) (q .«eui_64») there) (first (meant (login-id q) (For (q .«eui_64»))) 0 handles) refl
-        ) (λ e. refused s k somebody _)
+        ) (λ e. refused s k _)
         )
 
   handle-after : (source : NodeId) (q : Request) (o : Option ℕ) → own-login (s .book) source (login-id q) ≡ o → After s (handle-of s q o)
-  handle-after source q None e = refused s k somebody _
+  handle-after source q None e = refused s k _
   handle-after source q (Some slot) e =
       let mine = named (s .book) source (login-id q) slot e in
       by (row-at rows slot .aware) _ _ (
       λ a. by (q .«exclusive_or_allocate») _ _ (λ w. allocate-after q slot mine a) (λ w. release-after q slot mine a)
-      ) (λ a. refused s k somebody _)
+      ) (λ a. refused s k _)
 
-  function-after : (f : Function) (source : NodeId) (eui : Eui64) (q : Request) → s .shows source ≡ Some eui → After s (by-function f s source eui q)
-  function-after Login source eui q there =
-      by (q .update) _ _ (λ e. update-after s k somebody source q (own-login (s .book) source (login-id q)) refl) (λ e. login-after s k somebody source eui q there)
-  function-after QueryLogins source eui q there =
-      by (ltb 3 (unit-of q)) _ _ (λ e. refused s k somebody _) (λ e. by (ltb (q .«response_length») 4) _ _ (λ e. refused s k somebody _) (λ e. record { kept = k }))
-  function-after Reconnect source eui q there = reconnect-after s k somebody source eui q there
-  function-after NodeHandle source eui q there = handle-after source q (own-login (s .book) source (login-id q)) refl
-  function-after Logout source eui q there = logout-after (own-login (s .book) source (login-id q))
-  function-after (Unknown n) source eui q there = refused s k somebody _
+  -- every request
+  module _ (somebody : (i : NodeId) (e : Eui64) → s .shows i ≡ Some e → none-eui e ≡ false) where
+    function-after : (f : Function) (source : NodeId) (eui : Eui64) (q : Request) → s .shows source ≡ Some eui → After s (by-function f s source eui q)
+    function-after Login source eui q there =
+        by (q .update) _ _ (λ e. update-after s k source q (own-login (s .book) source (login-id q)) refl) (λ e. login-after s k source eui q there (somebody source eui there))
+    function-after QueryLogins source eui q there =
+        by (ltb 3 (unit-of q)) _ _ (λ e. refused s k _) (λ e. by (ltb (q .«response_length») 4) _ _ (λ e. refused s k _) (λ e. record { kept = k }))
+    function-after Reconnect source eui q there = reconnect-after s k source eui q there
+    function-after NodeHandle source eui q there = handle-after source q (own-login (s .book) source (login-id q)) refl
+    function-after Logout source eui q there = logout-after (own-login (s .book) source (login-id q))
+    function-after (Unknown n) source eui q there = refused s k _
 
-  from-after : (o : Option Eui64) (source : NodeId) (q : Request) → s .shows source ≡ o → After s (from o s source q)
-  from-after None source q e = refused s k somebody _
-  from-after (Some eui) source q e = function-after (q .function) source eui q e
+    from-after : (o : Option Eui64) (source : NodeId) (q : Request) → s .shows source ≡ o → After s (from o s source q)
+    from-after None source q e = refused s k _
+    from-after (Some eui) source q e = function-after (q .function) source eui q e
 
-  pub kept-after-request : (source : NodeId) (q : Request) → Kept (s .shows) (book-after (s .book) (outcome s source q))
-  kept-after-request source q = by (unsupported q) _ _ (λ e. refused s k somebody _) (λ e. from-after (s .shows source) source q refl) .kept
+    pub kept-after-request : (source : NodeId) (q : Request) → Kept (s .shows) (book-after (s .book) (outcome s source q))
+    kept-after-request source q = by (unsupported q) _ _ (λ e. refused s k _) (λ e. from-after (s .shows source) source q refl) .kept

@@ -1,5 +1,5 @@
 -- Events and sweeps of the whole tables: what holds of handles still does. Assumes that the bus is lawful.
-use mathlib.Core.Bool.{Bool, true, false, cond, not, _&&_}
+use mathlib.Core.Bool.{true, false, not, _&&_}
 use mathlib.Core.List.{List, map}
 use mathlib.Core.Logic.{inl, inr}
 use mathlib.Core.Path.{_≡_, refl, sym, ap, subst, _∙_}
@@ -15,7 +15,7 @@ use Rattle.reader.specs.declared.ids.NodeId.{NodeId}
 use Rattle.reader.specs.declared.ids.Eui64.{Eui64}
 use Rattle.bus.specs.Finding.{local-of}
 use Rattle.bus.specs.Meaning.{BusModel, Lawful}
-use Rattle.tables.specs.Events.{swept, reset-row, reset-handle, handle-to}
+use Rattle.tables.specs.Events.{swept, reset-row, reset-handle}
 use Rattle.tables.specs.Logins.{holder, free-row, row-after}
 use Rattle.tables.specs.Rows.{row-at, handle-at, free-handle, in-use}
 use Rattle.tables.specs.declared.rows.Handle.{Handle}
@@ -23,10 +23,10 @@ use Rattle.tables.specs.declared.rows.HandleSweep.{HandleSweep}
 use Rattle.tables.specs.declared.rows.HandleSweep.the-variants.{Orphans, AllOf, OthersOf, NetUpdated}
 use Rattle.tables.specs.declared.rows.LoginEvent.the-variants.{NetUpdate}
 use Rattle.tables.specs.declared.rows.LoginRow.{LoginRow}
-use Rattle.rules.specs.HandleClaims.{Aware-holder, Own-handle, Handle-claims, login-of}
+use Rattle.rules.specs.HandleClaims.{Aware-holder, Handle-claims, login-of}
 use Rattle.rules.proofs.HandleFollowing.{Next, next-reset, next-net-updated, next-same, handle-reset, owner-stays-at-reset, owner-stays-at-net-update}
 use Rattle.rules.proofs.HandlePlaces.{map-at}
-use Rattle.rules.proofs.HandleThinning.{Owner-shown, Handle-shown, Still, Follows, Same-handle, Remains, same-handle, claims-thinned, claims-kept}
+use Rattle.rules.proofs.HandleThinning.{Owner-shown, Handle-shown, Follows, Same-handle, Remains, same-handle, claims-thinned, claims-kept}
 
 pub free-is-not-in-use : in-use free-handle ≡ true → ⊥
 free-is-not-in-use u = both-ways false refl u

@@ -1,47 +1,40 @@
--- What is promised of handles holds after an update and a reconnect. Assumes that nobody is shown as all ones.
-use mathlib.Core.Bool.{Bool, true, false, cond, not, _&&_}
-use mathlib.Core.List.{List, [], map}
+-- What is promised of handles holds after an update and a reconnect. Assumes nothing.
+use mathlib.Core.Bool.{true, false}
+use mathlib.Core.List.{List}
 use mathlib.Core.Path.{_≡_, refl, sym, ap, subst, _∙_}
-use Prim.Native.Nat.{ℕ, _+_, _-_, _<_}
+use Prim.Native.Nat.{ℕ, _+_, _-_}
 use native.Mathlib.Omega.{arith}
-use lib.Dec.{eqb, leb, ltb}
-use lib.ListN.{length, set}
+use lib.Dec.{eqb, leb}
+use lib.ListN.{set}
 use Rattle.std.proofs.shelf.Lists.{length-set, length-map}
-use Rattle.std.proofs.shelf.Tests.{both-ways, and-parts, eqb-true, leb-true, lt-ltb, cond-both}
+use Rattle.std.proofs.shelf.Tests.{both-ways, and-parts, eqb-true, cond-both}
 use Rattle.std.specs.declared.option.Option.{Option}
 use Rattle.std.specs.declared.option.Option.the-variants.{Some, None}
-use Rattle.reader.specs.Ids.{none-eui, none-id}
 use Rattle.reader.specs.declared.ids.NodeId.{NodeId}
 use Rattle.reader.specs.declared.ids.Eui64.{Eui64}
-use Rattle.reader.specs.declared.refusal.Refusal.{Refusal}
 use Rattle.reader.specs.declared.request.Request.{Request}
-use Rattle.reader.specs.declared.request.Function.{Function}
-use Rattle.reader.specs.declared.request.Function.the-variants.{Login, QueryLogins, Reconnect, NodeHandle, Logout, Unknown}
-use Rattle.tables.specs.Books.{Book, with-handles, put-login}
-use Rattle.tables.specs.Events.{given-login, given-handle, handle-to, moved-handle, swept, swept-book, ended}
-use Rattle.tables.specs.Logins.{holder, active, free-row, row-after}
-use Rattle.tables.specs.Rows.{logins-size, handles-size, row-at, handle-at, free-handle, in-use}
-use Rattle.tables.specs.Searches.{first, meant, free-login, free-handle-place, after-place}
+use Rattle.tables.specs.Books.{Book, put-login}
+use Rattle.tables.specs.Events.{handle-to, moved-handle, swept-book}
+use Rattle.tables.specs.Logins.{holder, row-after}
+use Rattle.tables.specs.Rows.{handles-size, row-at, handle-at, free-handle}
+use Rattle.tables.specs.Searches.{first, meant, free-handle-place}
 use Rattle.tables.specs.declared.rows.Handle.{Handle}
-use Rattle.tables.specs.declared.rows.HandleSweep.the-variants.{AllOf, OthersOf}
+use Rattle.tables.specs.declared.rows.HandleSweep.the-variants.{AllOf}
 use Rattle.tables.specs.declared.rows.LoginEvent.the-variants.{Reconnect as Reconnected}
 use Rattle.tables.specs.declared.rows.LoginRow.{LoginRow}
-use Rattle.tables.specs.declared.rows.WhichHandle.the-variants.{For, Own}
-use Rattle.tables.proofs.Places.{next-free-some}
-use Rattle.rules.specs.HandleClaims.{Aware-holder, Handle-claims}
-use Rattle.rules.specs.Handles.{node-of, other-handle, query-outcome, allocate-new, allocate-in, allocate, release-one, release, handle-of, handle-outcome, shown-there, of-login}
-use Rattle.rules.specs.Logins.{unit-of, login-id, rejected, denied, new-row, own-handle, login-at, login-in, login-outcome, updated-row, updated, aware-update, update-in, update-of, update-outcome, own-handle-moved, disputed, may-reconnect, reconnect-outcome, logout-of, logout-outcome}
-use Rattle.rules.specs.Scenes.{Scene, Outcome, refuse, grant, book-after, own-login}
-use Rattle.rules.specs.Serving.{unsupported, by-function, from, outcome}
-use Rattle.rules.proofs.HandleFollowing.{Next, next-same, next-free-row, next-reconnected, owner-stays-at-reconnect}
-use Rattle.rules.proofs.HandleGiving.{claims-unaware, claims-aware, claims-other}
-use Rattle.rules.proofs.HandleKeeping.{Sized, sized-as, held-below, each-written, Handles-kept, all-kept, one-kept, claims-handles-kept, claims-row-kept}
-use Rattle.rules.proofs.HandlePlaces.{first-found, after-below, next-free-below, is-shown-some}
-use Rattle.rules.proofs.HandleSweeping.{free-is-not-in-use, claims-orphans, claims-others, claims-unaware-now}
-use Rattle.rules.proofs.HandleThinning.{Handle-shown, same-handle}
-use Rattle.rules.proofs.HandleLogins.{Kept, After, by, Named, named, handle-put, given-is-put, refused, kept-as, place-below, place-free, place-in, login-after}
+use Rattle.tables.specs.declared.rows.WhichHandle.the-variants.{Own}
+use Rattle.rules.specs.HandleClaims.{Handle-claims}
+use Rattle.rules.specs.Logins.{login-id, rejected, own-handle, updated-row, updated, aware-update, update-in, update-of, own-handle-moved, disputed, may-reconnect, reconnect-outcome}
+use Rattle.rules.specs.Scenes.{Scene, own-login}
+use Rattle.rules.proofs.HandleFollowing.{Next, next-reconnected, owner-stays-at-reconnect}
+use Rattle.rules.proofs.HandleGiving.{claims-aware}
+use Rattle.rules.proofs.HandleKeeping.{sized-as, held-below, Handles-kept, all-kept, one-kept, claims-row-kept}
+use Rattle.rules.proofs.HandlePlaces.{first-found, after-below}
+use Rattle.rules.proofs.HandleSweeping.{claims-unaware-now}
+use Rattle.rules.proofs.HandleThinning.{Handle-shown}
+use Rattle.rules.proofs.HandleLogins.{Kept, After, by, named, handle-put, given-is-put, refused, kept-as, place-below, place-free, place-in}
 
-module _ (s : Scene) (k : Kept (s .shows) (s .book)) (somebody : (i : NodeId) (e : Eui64) → s .shows i ≡ Some e → none-eui e ≡ false) where
+module _ (s : Scene) (k : Kept (s .shows) (s .book)) where
   abbrev rows : List LoginRow
   rows = s .book .logins
 
@@ -61,20 +54,20 @@ module _ (s : Scene) (k : Kept (s .shows) (s .book)) (somebody : (i : NodeId) (e
           stays-aware = λ h a. e ∙ a;
           is-shown = k .claims .owner-is-shown slot;
         } in
-        kept-as s k somebody (updated s q slot old) (
+        kept-as s k (updated s q slot old) (
         claims-row-kept (s .shows) rows handles (k .claims) slot (updated-row old q) handles next refl (all-kept (s .shows) rows handles (k .claims))
         ) (length-set rows slot _) refl refl refl
 
     newly-aware : (o : Option ℕ) → free-handle-place (s .book) ≡ o → q .aware ≡ true → old .aware ≡ false → After s (aware-update s q slot old o)
-    newly-aware None f a e = refused s k somebody _
+    newly-aware None f a e = refused s k _
     newly-aware (Some place) f a e =
         let h = own-handle (slot + 1) (old .«owner_eui_64») (old .«owner_id») in
         record {
-          kept = subst (Kept (s .shows)) (sym (given-is-put (updated s q slot old) place h (place-below s k somebody place f))) (
+          kept = subst (Kept (s .shows)) (sym (given-is-put (updated s q slot old) place h (place-below s k place f))) (
               record {
-                claims = claims-aware (s .shows) rows handles (k .claims) slot (updated-row old q) place (old .«owner_id») (held-below rows slot held) (place-in s k somebody place f) (
+                claims = claims-aware (s .shows) rows handles (k .claims) slot (updated-row old q) place (old .«owner_id») (held-below rows slot held) (place-in s k place f) (
                     λ w. both-ways (old .aware) e (w .is-aware)
-                    ) (place-free s k somebody place f) (k .claims .owner-is-shown slot) (record { held = held; is-aware = a }) (λ u l. k .claims .owner-is-shown slot held l);
+                    ) (place-free s k place f) (k .claims .owner-is-shown slot) (record { held = held; is-aware = a }) (λ u l. k .claims .owner-is-shown slot held l);
                 sized = sized-as (s .book) (handle-put (updated s q slot old) place h) (k .sized) (length-set rows slot _) (length-set handles place h) (k .sized .next-slot) (after-below handles-size place (omega arith));
               }
               );
@@ -82,7 +75,7 @@ module _ (s : Scene) (k : Kept (s .shows) (s .book)) (somebody : (i : NodeId) (e
 
     no-longer-aware : q .aware ≡ false → Kept (s .shows) (swept-book (updated s q slot old) (AllOf (slot + 1)))
     no-longer-aware a =
-        kept-as s k somebody (swept-book (updated s q slot old) (AllOf (slot + 1))) (
+        kept-as s k (swept-book (updated s q slot old) (AllOf (slot + 1))) (
         claims-unaware-now (s .shows) rows handles (k .claims) slot (updated-row old q) (held-below rows slot held) (
         λ h. record { held = h; owner = refl; was-aware = λ x. absurd (both-ways (q .aware) a x) }
         ) (k .claims .owner-is-shown slot) a
@@ -95,10 +88,10 @@ module _ (s : Scene) (k : Kept (s .shows) (s .book)) (somebody : (i : NodeId) (e
         ) (λ a. record { kept = cond-both (old .aware) _ _ (Kept (s .shows)) (λ w. no-longer-aware a) (λ w. as-aware (a ∙ sym w)) })
 
   pub update-after : (source : NodeId) (q : Request) (o : Option ℕ) → own-login (s .book) source (login-id q) ≡ o → After s (update-of s source q o)
-  update-after source q None e = refused s k somebody _
+  update-after source q None e = refused s k _
   update-after source q (Some slot) e =
-      by (rejected source q) _ _ (λ e. refused s k somebody _) (
-      λ w. by (disputed s q slot) _ _ (λ e. refused s k somebody _) (λ w. update-in-after q slot (named (s .book) source (login-id q) slot e .is-held))
+      by (rejected source q) _ _ (λ e. refused s k _) (
+      λ w. by (disputed s q slot) _ _ (λ e. refused s k _) (λ w. update-in-after q slot (named (s .book) source (login-id q) slot e .is-held))
       )
 
   -- the same handle at another node
@@ -125,12 +118,12 @@ module _ (s : Scene) (k : Kept (s .shows) (s .book)) (somebody : (i : NodeId) (e
         row-kept left = claims-row-kept (s .shows) rows handles (k .claims) slot-of _ left next (owner-stays-at-reconnect (row-at rows slot-of) source)
 
         go : (o : Option ℕ) → first (meant (login-id q) Own) 0 handles ≡ o → Kept (s .shows) (own-handle-moved back source o)
-        go None e = kept-as s k somebody back (row-kept handles (all-kept (s .shows) rows handles (k .claims))) (length-set rows slot-of _) refl refl refl
+        go None e = kept-as s k back (row-kept handles (all-kept (s .shows) rows handles (k .claims))) (length-set rows slot-of _) refl refl refl
         go (Some place) e =
             let h = handle-at handles place in
             let w = and-parts (eqb (h .login) (login-id q)) (h .own) (first-found (meant (login-id q) Own) handles place free-handle e) in
             let l = eqb-true (h .login) (login-id q) (w .0) in
-            kept-as s k somebody (moved-handle back place source) (
+            kept-as s k (moved-handle back place source) (
             row-kept _ (
             moved-kept place source (
             λ u below. there ∙ ap (λ (x : Eui64). Some x) (sym (k .claims .own-handle-has-its-owner place u (w .1) ∙ ap (λ (n : ℕ). row-at rows (n - 1) .«owner_eui_64») l ∙ owner))
@@ -145,4 +138,4 @@ module _ (s : Scene) (k : Kept (s .shows) (s .book)) (somebody : (i : NodeId) (e
         let p = and-parts (leb 1 (login-id q)) _ e in
         let r = and-parts (holder (row-at rows slot-of)) (eqb (row-at rows slot-of .«owner_eui_64» .0) (eui .0)) (p .1) in
         record { kept = reconnected (ap (λ (n : ℕ). record { 0 = n }) (eqb-true _ _ (r .1))) (first (meant (login-id q) Own) 0 handles) refl }
-        ) (λ e. refused s k somebody _)
+        ) (λ e. refused s k _)
