@@ -26,6 +26,7 @@ use Rattle.tables.proofs.Places.{next-free-some}
 use Rattle.rules.specs.HandleClaims.{Aware-holder, Handle-claims}
 use Rattle.rules.specs.Logins.{unit-of, rejected, denied, new-row, own-handle, login-at, login-in, login-outcome}
 use Rattle.rules.specs.Scenes.{Scene, Outcome, refuse, book-after, own-login}
+use Rattle.rules.proofs.Walking.{by-test}
 use Rattle.rules.proofs.HandleGiving.{claims-unaware, claims-aware}
 use Rattle.rules.proofs.HandleKeeping.{Sized, sized-as}
 use Rattle.rules.proofs.HandlePlaces.{after-below, next-free-below}
@@ -38,10 +39,6 @@ pub record Kept (shows : NodeId → Option Eui64) (b : Book) : Type 0 where
 -- what came of a request keeps it
 pub record After (s : Scene) (o : Outcome) : Type 0 where
   pub kept : Kept (s .shows) (book-after (s .book) o)
-
-pub by : {s : Scene} (b : Bool) (x y : Outcome) → (b ≡ true → After s x) → (b ≡ false → After s y) → After s (cond b x y)
-by true x y f g = f refl
-by false x y f g = g refl
 
 -- the own active login is the one that was named, and active
 pub record Named (b : Book) (id slot : ℕ) : Type 0 where
@@ -136,7 +133,7 @@ module _ (s : Scene) (k : Kept (s .shows) (s .book)) where
 
       login-slot-after : After s (login-in s source eui q (Some slot))
       login-slot-after =
-          by (q .aware) _ _ (λ a. login-at-after (free-handle-place (s .book)) refl a) (
+          by-test (After s) (q .aware) _ _ (λ a. login-at-after (free-handle-place (s .book)) refl a) (
           λ a. record {
             kept = subst (Kept (s .shows)) (sym given-is) (
                 record {
@@ -153,4 +150,4 @@ module _ (s : Scene) (k : Kept (s .shows) (s .book)) where
 
     pub login-after : After s (login-outcome s source eui q)
     login-after =
-        by (ltb 3 (unit-of q)) _ _ (λ e. refused _) (λ e. by (rejected source q) _ _ (λ e. refused _) (λ e. by (denied s eui q) _ _ (λ e. refused _) (λ ok. login-in-after (free-login (s .book)) refl)))
+        by-test (After s) (ltb 3 (unit-of q)) _ _ (λ e. refused _) (λ e. by-test (After s) (rejected source q) _ _ (λ e. refused _) (λ e. by-test (After s) (denied s eui q) _ _ (λ e. refused _) (λ ok. login-in-after (free-login (s .book)) refl)))

@@ -29,12 +29,13 @@ use Rattle.rules.specs.Handles.{node-of, other-handle, allocate-new, allocate-
 use Rattle.rules.specs.Logins.{unit-of, login-id, logout-of}
 use Rattle.rules.specs.Scenes.{Scene, grant, book-after, own-login}
 use Rattle.rules.specs.Serving.{unsupported, by-function, from, outcome}
+use Rattle.rules.proofs.Walking.{by-test}
 use Rattle.rules.proofs.HandleFollowing.{Next, next-same, next-free-row}
 use Rattle.rules.proofs.HandleGiving.{claims-other}
 use Rattle.rules.proofs.HandleKeeping.{sized-as, each-written, one-kept, claims-handles-kept}
 use Rattle.rules.proofs.HandlePlaces.{first-found, after-below, is-shown-some}
 use Rattle.rules.proofs.HandleSweeping.{free-is-not-in-use, claims-orphans, claims-others}
-use Rattle.rules.proofs.HandleLogins.{Kept, After, by, Named, named, handle-put, given-is-put, refused, kept-as, place-below, place-free, login-after}
+use Rattle.rules.proofs.HandleLogins.{Kept, After, Named, named, handle-put, given-is-put, refused, kept-as, place-below, place-free, login-after}
 use Rattle.rules.proofs.HandleUpdates.{update-after, moved-kept, reconnect-after}
 
 module _ (s : Scene) (k : Kept (s .shows) (s .book)) where
@@ -93,11 +94,11 @@ module _ (s : Scene) (k : Kept (s .shows) (s .book)) where
     release-after : After s (release s q)
     release-after =
         let place = q .«node_or_handle» - 1 in
-        by (eqb (q .«node_or_handle») 0xFFFF) _ _ (
+        by-test (After s) (eqb (q .«node_or_handle») 0xFFFF) _ _ (
         λ e. handles-only _ _ (claims-others (s .shows) rows handles (k .claims) (login-id q)) (length-map handles _)
         ) (
-        λ e. by (of-login s q place) _ _ (
-        λ e. by (handle-at handles place .own) _ _ (λ e. refused s k _) (
+        λ e. by-test (After s) (of-login s q place) _ _ (
+        λ e. by-test (After s) (handle-at handles place .own) _ _ (λ e. refused s k _) (
         λ other. handles-only _ _ (
         claims-handles-kept (s .shows) rows handles (k .claims) _ (
         one-kept (s .shows) rows handles (k .claims) place free-handle (λ u. absurd (free-is-not-in-use u)) (λ u. absurd (free-is-not-in-use u)) (λ x. absurd (both-ways _ other x))
@@ -109,8 +110,8 @@ module _ (s : Scene) (k : Kept (s .shows) (s .book)) where
 
     allocate-after : After s (allocate s q)
     allocate-after =
-        by (ltb (q .«response_length») 4) _ _ (λ e. refused s k _) (
-        λ e. by (shown-there s q) _ _ (
+        by-test (After s) (ltb (q .«response_length») 4) _ _ (λ e. refused s k _) (
+        λ e. by-test (After s) (shown-there s q) _ _ (
         λ there. allocate-in-after (is-shown-some (s .shows (node-of q)) (q .«eui_64») there) (first (meant (login-id q) (For (q .«eui_64»))) 0 handles) refl
         ) (λ e. refused s k _)
         )
@@ -119,17 +120,17 @@ module _ (s : Scene) (k : Kept (s .shows) (s .book)) where
   handle-after source q None e = refused s k _
   handle-after source q (Some slot) e =
       let mine = named (s .book) source (login-id q) slot e in
-      by (row-at rows slot .aware) _ _ (
-      λ a. by (q .«exclusive_or_allocate») _ _ (λ w. allocate-after q slot mine a) (λ w. release-after q slot mine a)
+      by-test (After s) (row-at rows slot .aware) _ _ (
+      λ a. by-test (After s) (q .«exclusive_or_allocate») _ _ (λ w. allocate-after q slot mine a) (λ w. release-after q slot mine a)
       ) (λ a. refused s k _)
 
   -- every request
   module _ (somebody : (i : NodeId) (e : Eui64) → s .shows i ≡ Some e → none-eui e ≡ false) where
     function-after : (f : Function) (source : NodeId) (eui : Eui64) (q : Request) → s .shows source ≡ Some eui → After s (by-function f s source eui q)
     function-after Login source eui q there =
-        by (q .update) _ _ (λ e. update-after s k source q (own-login (s .book) source (login-id q)) refl) (λ e. login-after s k source eui q there (somebody source eui there))
+        by-test (After s) (q .update) _ _ (λ e. update-after s k source q (own-login (s .book) source (login-id q)) refl) (λ e. login-after s k source eui q there (somebody source eui there))
     function-after QueryLogins source eui q there =
-        by (ltb 3 (unit-of q)) _ _ (λ e. refused s k _) (λ e. by (ltb (q .«response_length») 4) _ _ (λ e. refused s k _) (λ e. record { kept = k }))
+        by-test (After s) (ltb 3 (unit-of q)) _ _ (λ e. refused s k _) (λ e. by-test (After s) (ltb (q .«response_length») 4) _ _ (λ e. refused s k _) (λ e. record { kept = k }))
     function-after Reconnect source eui q there = reconnect-after s k source eui q there
     function-after NodeHandle source eui q there = handle-after source q (own-login (s .book) source (login-id q)) refl
     function-after Logout source eui q there = logout-after (own-login (s .book) source (login-id q))
@@ -140,4 +141,4 @@ module _ (s : Scene) (k : Kept (s .shows) (s .book)) where
     from-after (Some eui) source q e = function-after (q .function) source eui q e
 
     pub kept-after-request : (source : NodeId) (q : Request) → Kept (s .shows) (book-after (s .book) (outcome s source q))
-    kept-after-request source q = by (unsupported q) _ _ (λ e. refused s k _) (λ e. from-after (s .shows source) source q refl) .kept
+    kept-after-request source q = by-test (After s) (unsupported q) _ _ (λ e. refused s k _) (λ e. from-after (s .shows source) source q refl) .kept

@@ -26,13 +26,14 @@ use Rattle.tables.specs.declared.rows.WhichHandle.the-variants.{Own}
 use Rattle.rules.specs.HandleClaims.{Handle-claims}
 use Rattle.rules.specs.Logins.{login-id, rejected, own-handle, updated-row, updated, aware-update, update-in, update-of, own-handle-moved, disputed, may-reconnect, reconnect-outcome}
 use Rattle.rules.specs.Scenes.{Scene, own-login}
+use Rattle.rules.proofs.Walking.{by-test}
 use Rattle.rules.proofs.HandleFollowing.{Next, next-reconnected, owner-stays-at-reconnect}
 use Rattle.rules.proofs.HandleGiving.{claims-aware}
 use Rattle.rules.proofs.HandleKeeping.{sized-as, held-below, Handles-kept, all-kept, one-kept, claims-row-kept}
 use Rattle.rules.proofs.HandlePlaces.{first-found, after-below}
 use Rattle.rules.proofs.HandleSweeping.{claims-unaware-now}
 use Rattle.rules.proofs.HandleThinning.{Handle-shown}
-use Rattle.rules.proofs.HandleLogins.{Kept, After, by, named, handle-put, given-is-put, refused, kept-as, place-below, place-free, place-in}
+use Rattle.rules.proofs.HandleLogins.{Kept, After, named, handle-put, given-is-put, refused, kept-as, place-below, place-free, place-in}
 
 module _ (s : Scene) (k : Kept (s .shows) (s .book)) where
   abbrev rows : List LoginRow
@@ -83,15 +84,15 @@ module _ (s : Scene) (k : Kept (s .shows) (s .book)) where
 
     update-in-after : After s (update-in s q slot old)
     update-in-after =
-        by (q .aware) _ _ (
-        λ a. by (old .aware) _ _ (λ w. record { kept = as-aware (a ∙ sym w) }) (λ w. newly-aware (free-handle-place (s .book)) refl a w)
+        by-test (After s) (q .aware) _ _ (
+        λ a. by-test (After s) (old .aware) _ _ (λ w. record { kept = as-aware (a ∙ sym w) }) (λ w. newly-aware (free-handle-place (s .book)) refl a w)
         ) (λ a. record { kept = cond-both (old .aware) _ _ (Kept (s .shows)) (λ w. no-longer-aware a) (λ w. as-aware (a ∙ sym w)) })
 
   pub update-after : (source : NodeId) (q : Request) (o : Option ℕ) → own-login (s .book) source (login-id q) ≡ o → After s (update-of s source q o)
   update-after source q None e = refused s k _
   update-after source q (Some slot) e =
-      by (rejected source q) _ _ (λ e. refused s k _) (
-      λ w. by (disputed s q slot) _ _ (λ e. refused s k _) (λ w. update-in-after q slot (named (s .book) source (login-id q) slot e .is-held))
+      by-test (After s) (rejected source q) _ _ (λ e. refused s k _) (
+      λ w. by-test (After s) (disputed s q slot) _ _ (λ e. refused s k _) (λ w. update-in-after q slot (named (s .book) source (login-id q) slot e .is-held))
       )
 
   -- the same handle at another node
@@ -133,7 +134,7 @@ module _ (s : Scene) (k : Kept (s .shows) (s .book)) where
 
     pub reconnect-after : After s (reconnect-outcome s source eui q)
     reconnect-after =
-        by (may-reconnect s eui q) _ _ (
+        by-test (After s) (may-reconnect s eui q) _ _ (
         λ e.
         let p = and-parts (leb 1 (login-id q)) _ e in
         let r = and-parts (holder (row-at rows slot-of)) (eqb (row-at rows slot-of .«owner_eui_64» .0) (eui .0)) (p .1) in

@@ -1,6 +1,6 @@
 -- Claims hold after every call, and so after every run. Assumes that the access list is lawful.
 use mathlib.Core.Bool.{Bool, true, false, cond, not, _&&_}
-use mathlib.Core.List.{List, _∷_, map}
+use mathlib.Core.List.{List, [], _∷_, map}
 use mathlib.Core.Path.{_≡_, refl, sym, ap, subst}
 use Prim.Native.Nat.{ℕ, zero, suc}
 use lib.ListN.{replicate}
