@@ -29,7 +29,7 @@ pub record Own-handle (id : ℕ) (owner : Eui64) (h : Handle) : Type 0 where
   pub is-own : h .own ≡ true
   pub has-owner : h .«eui_64» ≡ owner
 
--- by what the bus shows; a node ID has 16 bits, so that each one but none is below FFFFh
+-- by what the bus shows; a node ID has 16 bits, so that each one but none is below FFFFh (no law binds a reset at larger numbers)
 pub record Handle-claims (shows : NodeId → Option Eui64) (rows : List LoginRow) (handles : List Handle) : Type 0 where
   -- a handle in use belongs to an aware holder
   pub handle-belongs-to-an-aware-holder : (p : ℕ) → in-use (handle-at handles p) ≡ true → Aware-holder (login-of rows (handle-at handles p))
