@@ -1,4 +1,4 @@
--- How a reader goes through the bytes; Laws ties this to what the bytes are. Assumes nothing.
+-- How a reader goes through the bytes; proofs/Finding and proofs/Entries tie this to what the bytes are. Assumes nothing.
 use Prim.Native.Nat.{ℕ, _+_, _-_, _*_, _^_}
 use mathlib.Core.List.{List, [], _∷_}
 use mathlib.Core.Bool.{cond}

@@ -1,14 +1,13 @@
 -- Claims hold after every run. Assumes nothing.
-use mathlib.Core.Bool.{Bool, true, false, cond}
-use mathlib.Core.List.{List, [], _∷_}
-use mathlib.Core.Path.{_≡_, refl, sym, ap, subst, _∙_}
+use mathlib.Core.Bool.{Bool, true}
+use mathlib.Core.List.{List}
+use mathlib.Core.Path.{_≡_, sym, ap, subst, _∙_}
 use Prim.Native.Nat.{ℕ}
 use Rattle.reader.specs.declared.ids.Eui64.{Eui64}
-use Rattle.tables.specs.Logins.{holder}
 use Rattle.tables.specs.Rows.{row-at}
 use Rattle.tables.specs.declared.rows.LoginRow.{LoginRow}
 use Rattle.rules.specs.Claims.{Claims}
-use Rattle.rules.proofs.Thinning.{Like, Same-holder, Thinner}
+use Rattle.rules.proofs.Thinning.{Thinner}
 
 pub claims-thinner : (admits : Eui64 → ℕ → Bool) (rows after : List LoginRow) → Thinner rows after → Claims admits rows → Claims admits after
 claims-thinner admits rows after thin c =

@@ -1,19 +1,15 @@
 -- Claims hold after every request. Assumes nothing.
-use mathlib.Core.Bool.{Bool, true, false, cond, not, _&&_, _||_}
-use mathlib.Core.List.{List, [], _∷_}
-use mathlib.Core.Logic.{_⊎_, inl, inr}
+use mathlib.Core.Bool.{Bool, true, not}
+use mathlib.Core.List.{List}
+use mathlib.Core.Logic.{inl, inr}
 use mathlib.Core.Path.{_≡_, refl, sym, ap, subst, _∙_}
-use Prim.Native.Nat.{ℕ, zero, suc, _+_, _-_, _≤_}
+use Prim.Native.Nat.{ℕ, _-_, _≤_}
 use native.Mathlib.Omega.{arith}
-use lib.Dec.{eqb, leb, ltb}
-use lib.ListN.{getD, set}
-use Rattle.std.proofs.shelf.Tests.{both-ways, and-parts, and-from, or-parts, eq-eqb, ltb-false, not-false}
-use Rattle.std.specs.declared.option.Option.{Option}
-use Rattle.std.specs.declared.option.Option.the-variants.{Some, None}
+use lib.Dec.{eqb}
+use lib.ListN.{set}
+use Rattle.std.proofs.shelf.Tests.{and-from, eq-eqb}
 use Rattle.reader.specs.Ids.{none-eui}
-use Rattle.reader.specs.declared.ids.NodeId.{NodeId}
 use Rattle.reader.specs.declared.ids.Eui64.{Eui64}
-use Rattle.reader.specs.declared.request.Request.{Request}
 use Rattle.tables.specs.Logins.{holder, free-row}
 use Rattle.tables.specs.Rows.{row-at}
 use Rattle.tables.specs.Searches.{among, count}
@@ -21,8 +17,6 @@ use Rattle.tables.specs.declared.rows.Holders.the-variants.{OfUnit, ExclusiveTo
 use Rattle.tables.specs.declared.rows.LoginRow.{LoginRow}
 use Rattle.tables.proofs.Setting.{set-either}
 use Rattle.rules.specs.Claims.{Claims}
-use Rattle.rules.specs.Logins.{unit-of, denied, new-row, updated-row}
-use Rattle.rules.specs.Scenes.{Scene}
 use Rattle.rules.proofs.Counting.{some-counted, one-counted}
 
 abbrev exclusive-of : LoginRow → Bool

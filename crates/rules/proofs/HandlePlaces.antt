@@ -1,27 +1,17 @@
 -- Reading a place of a list that was mapped, searched or filled. Assumes nothing.
 use mathlib.Core.Bool.{Bool, true, false, cond}
-use mathlib.Core.List.{List, [], _∷_, map}
-use mathlib.Core.Path.{_≡_, refl, sym, ap, subst}
+use mathlib.Core.List.{List, [], _∷_}
+use mathlib.Core.Path.{_≡_, refl, ap, subst}
 use Prim.Native.Nat.{ℕ, zero, suc, _+_, _<_}
 use native.Mathlib.Omega.{arith}
 use lib.Dec.{leb}
-use lib.ListN.{getD, replicate}
+use lib.ListN.{getD}
 use Rattle.std.proofs.shelf.Tests.{both-ways, eqb-true, leb-false}
 use Rattle.std.specs.declared.option.Option.{Option}
 use Rattle.std.specs.declared.option.Option.the-variants.{Some, None}
 use Rattle.reader.specs.declared.ids.Eui64.{Eui64}
 use Rattle.bus.specs.Finding.{is-shown}
 use Rattle.tables.specs.Searches.{first, next-free, after-place}
-
-pub map-at : {X : Type 0} (f : X → X) (xs : List X) (i : ℕ) (d : X) → f d ≡ d → getD (map f xs) i d ≡ f (getD xs i d)
-map-at f [] i d e = sym e
-map-at f (x ∷ xs) zero d e = refl
-map-at f (x ∷ xs) (suc i) d e = map-at f xs i d e
-
-pub replicate-at : {X : Type 0} (n i : ℕ) (d : X) → getD (replicate n d) i d ≡ d
-replicate-at zero i d = refl
-replicate-at (suc n) zero d = refl
-replicate-at (suc n) (suc i) d = replicate-at n i d
 
 -- what is found passes the test
 pub first-passes : {X : Type 0} (test : X → Bool) (k : ℕ) (xs : List X) (p : ℕ) (d : X) → first test k xs ≡ Some p → (j : ℕ) × (p ≡ k + j) × (test (getD xs j d) ≡ true)

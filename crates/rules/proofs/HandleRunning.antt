@@ -26,7 +26,7 @@ use Rattle.rules.specs.declared.calls.Call.the-variants.{Request, BusReset, Ne
 use Rattle.rules.proofs.HandleFollowing.{Next, next-ticked, next-kept}
 use Rattle.rules.proofs.HandleKeeping.{sized-as}
 use Rattle.rules.proofs.HandleLogins.{Kept}
-use Rattle.rules.proofs.HandlePlaces.{map-at, replicate-at}
+use Rattle.rules.proofs.Rows.{map-at, replicate-at}
 use Rattle.rules.proofs.HandleServed.{kept-after-request}
 use Rattle.rules.proofs.HandleSweeping.{claims-orphans, claims-reset, claims-net-updated}
 use Rattle.rules.proofs.HandleThinning.{Owner-shown}

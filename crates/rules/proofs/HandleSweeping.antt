@@ -25,7 +25,7 @@ use Rattle.tables.specs.declared.rows.LoginEvent.the-variants.{NetUpdate}
 use Rattle.tables.specs.declared.rows.LoginRow.{LoginRow}
 use Rattle.rules.specs.HandleClaims.{Aware-holder, Handle-claims, login-of}
 use Rattle.rules.proofs.HandleFollowing.{Next, next-reset, next-net-updated, next-same, handle-reset, owner-stays-at-reset, owner-stays-at-net-update}
-use Rattle.rules.proofs.HandlePlaces.{map-at}
+use Rattle.rules.proofs.Rows.{map-at}
 use Rattle.rules.proofs.HandleThinning.{Owner-shown, Handle-shown, Follows, Same-handle, Remains, same-handle, claims-thinned, claims-kept}
 
 pub free-is-not-in-use : in-use free-handle ≡ true → ⊥

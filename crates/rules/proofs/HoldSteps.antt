@@ -10,7 +10,7 @@ use Rattle.reader.specs.declared.request.Request.{Request as Asked}
 use Rattle.tables.specs.Books.{Book}
 use Rattle.tables.specs.Events.{kept-row, reset-row, each-login, swept-book, tick-counted}
 use Rattle.tables.specs.declared.rows.HandleSweep.the-variants.{Orphans}
-use Rattle.tables.specs.Logins.{reserved, row-after}
+use Rattle.tables.specs.Logins.{free-row, reserved, row-after}
 use Rattle.tables.specs.Rows.{row-at}
 use Rattle.tables.specs.declared.rows.LoginEvent.the-variants.{NetUpdate as NetUpdated, Tick as Ticked}
 use Rattle.tables.specs.declared.rows.LoginRow.{LoginRow}
@@ -22,7 +22,8 @@ use Rattle.rules.specs.declared.calls.Answer.{Answer}
 use Rattle.rules.specs.declared.calls.Call.{Call}
 use Rattle.rules.specs.declared.calls.Call.the-variants.{Request, BusReset, NetUpdate, Gap, Tick, AccessChange, BusNote, AccessNote}
 use Rattle.rules.proofs.Calm.{Calm}
-use Rattle.rules.proofs.Restarting.{From-the-start, at-map, bus-reset-starts, net-update-starts, tick-reserves-none, change-reserves-none}
+use Rattle.rules.proofs.Rows.{map-at}
+use Rattle.rules.proofs.Restarting.{From-the-start, bus-reset-starts, net-update-starts, tick-reserves-none, change-reserves-none}
 use Rattle.rules.proofs.Walking.{either-book}
 use Rattle.rules.proofs.Turning.{reconnect-ends-the-wait, request-leaves-reserved, request-leaves-ticking}
 
@@ -46,12 +47,12 @@ module _ {B A N : Type 0} (m : BusModel B) (n : AccessModel A N) (lawful : Lawfu
     restart-begins x (Request source q) a y step e = absurd (let z : _≡_ {A = ℕ} 0 1 = cc in omega arith)
     restart-begins x BusReset a y step e =
         record {
-          from-the-start = subst From-the-start (sym (row-as y _ (step .3) ∙ at-map (reset-row (m .shows (y .bus))) refl (x .book .logins) slot)) (bus-reset-starts (m .shows (y .bus)) (row x));
+          from-the-start = subst From-the-start (sym (row-as y _ (step .3) ∙ map-at (reset-row (m .shows (y .bus))) (x .book .logins) slot free-row refl)) (bus-reset-starts (m .shows (y .bus)) (row x));
           not-ticking = ap (λ (z : Book). z .ticking) (step .3);
         }
     restart-begins x NetUpdate a y step e =
         record {
-          from-the-start = subst From-the-start (sym (row-as y _ (step .3) ∙ at-map (λ r. row-after r NetUpdated) refl (x .book .logins) slot)) (net-update-starts (row x));
+          from-the-start = subst From-the-start (sym (row-as y _ (step .3) ∙ map-at (λ r. row-after r NetUpdated) (x .book .logins) slot free-row refl)) (net-update-starts (row x));
           not-ticking = ap (λ (z : Book). z .ticking) (step .3);
         }
     restart-begins x Gap a y step e = absurd (let z : _≡_ {A = ℕ} 0 1 = cc in omega arith)
@@ -78,7 +79,7 @@ module _ {B A N : Type 0} (m : BusModel B) (n : AccessModel A N) (lawful : Lawfu
 
     -- the row after a tick, by whether ticks count
     pub row-ticked : (b : Book) (t : Bool) → b .ticking ≡ t → row-at (tick-counted b .logins) slot ≡ cond t (row-after (row-at (b .logins) slot) Ticked) (row-at (b .logins) slot)
-    row-ticked b true e = ap (λ (t : Bool). row-at (cond t (swept-book (each-login b Ticked) Orphans) b .logins) slot) e ∙ at-map (λ r. row-after r Ticked) refl (b .logins) slot
+    row-ticked b true e = ap (λ (t : Bool). row-at (cond t (swept-book (each-login b Ticked) Orphans) b .logins) slot) e ∙ map-at (λ r. row-after r Ticked) (b .logins) slot free-row refl
     row-ticked b false e = ap (λ (t : Bool). row-at (cond t (swept-book (each-login b Ticked) Orphans) b .logins) slot) e
 
     module _ (x y : Snapshot B A) (source : NodeId) (q : Asked) (a : Answer) (step : Step m n x (Request source q) a y) where
@@ -108,6 +109,6 @@ module _ {B A N : Type 0} (m : BusModel B) (n : AccessModel A N) (lawful : Lawfu
       go true p = ap reserved (row-as y _ (step .2) ∙ row-ticked (x .book) true p) ∙ tick-reserves-none (row x) h
       go false p = ap reserved (row-as y _ (step .2) ∙ row-ticked (x .book) false p) ∙ h
     reserves-none x AccessChange a y step e h =
-        ap reserved (row-as y _ (step .3) ∙ at-map (kept-row (n .admits (y .list))) refl (x .book .logins) slot) ∙ change-reserves-none (n .admits (y .list)) (row x) h
+        ap reserved (row-as y _ (step .3) ∙ map-at (kept-row (n .admits (y .list))) (x .book .logins) slot free-row refl) ∙ change-reserves-none (n .admits (y .list)) (row x) h
     reserves-none x (BusNote node eui) a y step e h = ap reserved (row-as y _ (step .4)) ∙ h
     reserves-none x (AccessNote note) a y step e h = ap reserved (row-as y _ (step .4)) ∙ h

@@ -21,7 +21,8 @@ use Rattle.rules.specs.declared.calls.Answer.{Answer}
 use Rattle.rules.specs.declared.calls.Call.{Call}
 use Rattle.rules.specs.declared.calls.Call.the-variants.{Request, BusReset, NetUpdate, Gap, Tick, AccessChange, BusNote, AccessNote}
 use Rattle.rules.proofs.LastHold.{hold-at-restart}
-use Rattle.rules.proofs.Restarting.{at-map, tick-of-reserved}
+use Rattle.rules.proofs.Rows.{map-at}
+use Rattle.rules.proofs.Restarting.{tick-of-reserved}
 use Rattle.rules.proofs.HoldSteps.{row-as, row-ticked, reconnected, calmed, reserves-none, restart-begins, ticking-step}
 
 module _ {B A N : Type 0} (m : BusModel B) (n : AccessModel A N) (lawful : Lawful m) where
@@ -142,7 +143,7 @@ module _ {B A N : Type 0} (m : BusModel B) (n : AccessModel A N) (lawful : Lawfu
         change-next : Step m n x AccessChange a y → Next AccessChange a y es
         change-next step = go (n .admits (y .list) (l .«owner_eui_64») (l .unit)) refl where
           after : row y ≡ kept-row (n .admits (y .list)) (moved l nowhere left)
-          after = row-as m n lawful slot y _ (step .3) ∙ at-map (kept-row (n .admits (y .list))) refl (x .book .logins) slot ∙ ap (kept-row (n .admits (y .list))) (u .as-left)
+          after = row-as m n lawful slot y _ (step .3) ∙ map-at (kept-row (n .admits (y .list))) (x .book .logins) slot free-row refl ∙ ap (kept-row (n .admits (y .list))) (u .as-left)
 
           go : (t : Bool) → n .admits (y .list) (l .«owner_eui_64») (l .unit) ≡ t → Next AccessChange a y es
           go true p =

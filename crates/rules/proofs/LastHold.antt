@@ -10,7 +10,7 @@ use Rattle.bus.specs.Meaning.{BusModel}
 use Rattle.access.specs.Meaning.{AccessModel}
 use Rattle.tables.specs.Books.{Book}
 use Rattle.tables.specs.Events.{kept-row, reset-row}
-use Rattle.tables.specs.Logins.{holder, row-after}
+use Rattle.tables.specs.Logins.{holder, free-row, row-after}
 use Rattle.tables.specs.Rows.{logins-size, row-at}
 use Rattle.tables.specs.declared.rows.LoginEvent.the-variants.{Reset, NetUpdate as NetUpdated, Tick as Ticked}
 use Rattle.tables.specs.declared.rows.LoginRow.{LoginRow}
@@ -22,7 +22,7 @@ use Rattle.rules.specs.declared.calls.Answer.{Answer}
 use Rattle.rules.specs.declared.calls.Call.{Call}
 use Rattle.rules.specs.declared.calls.Call.the-variants.{Request, BusReset, NetUpdate, Gap, Tick, AccessChange, BusNote, AccessNote}
 use Rattle.rules.proofs.HoldGiving.{hold-as-asked, hold-as-before}
-use Rattle.rules.proofs.Running.{all-free}
+use Rattle.rules.proofs.Rows.{replicate-at}
 use Rattle.rules.proofs.Walking.{either-book}
 use Rattle.rules.proofs.Thinning.{Like, like-same, like-after, like-kept, thinner-map}
 
@@ -73,7 +73,7 @@ module _ {B A N : Type 0} (m : BusModel B) (n : AccessModel A N) (slot : ℕ) wh
   pub hold-is-last : (start : Snapshot B A) → New start → (history : List (Event B A N)) → Run m n start history → holder (row (now-at start history)) ≡ true
       → row (now-at start history) .hold ≡ last-hold start slot history
   hold-is-last start new [] run h =
-      absurd (both-ways (holder (row start)) (ap (λ (b : Book). holder (row-at (b .logins) slot)) new ∙ ap holder (all-free logins-size slot)) h)
+      absurd (both-ways (holder (row start)) (ap (λ (b : Book). holder (row-at (b .logins) slot)) new ∙ ap holder (replicate-at logins-size slot free-row)) h)
   hold-is-last start new (e ∷ es) run h = go (gives-hold slot (e .call) (e .answer) (row (now-at start es)) (row (e .after))) refl (hold-is-last start new es (run .0)) where
     gives : Gives (now-at start es) (e .call) (e .answer) (e .after)
     gives = step-gives (now-at start es) (e .call) (e .answer) (e .after) (run .1)

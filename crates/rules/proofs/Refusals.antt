@@ -6,7 +6,7 @@ use Rattle.reader.specs.declared.refusal.Refusal.{Refusal}
 use Rattle.rules.specs.Laws.{Unchanged, Changes-nothing}
 use Rattle.rules.specs.Scenes.{Scene, Outcome, refuse, grant, answer-of}
 use Rattle.rules.specs.Serving.{outcome}
-use Rattle.rules.specs.declared.calls.Answer.the-variants.{Granted, Refused}
+use Rattle.rules.specs.declared.calls.Answer.the-variants.{Refused}
 
 -- by what came of it
 unchanged : (s : Scene) (o : Outcome) (r : Refusal) → answer-of o ≡ Refused r → Unchanged s o

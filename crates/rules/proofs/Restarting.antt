@@ -1,8 +1,7 @@
 -- What a reset, a net update, a tick and an access change make of a reserved login. Assumes nothing.
 use mathlib.Core.Bool.{Bool, true, false, cond, not, _&&_}
-use mathlib.Core.List.{List, [], _∷_, map}
 use mathlib.Core.Path.{_≡_, refl, sym, ap, _∙_}
-use Prim.Native.Nat.{ℕ, zero, suc, _+_, _-_}
+use Prim.Native.Nat.{ℕ, _+_, _-_}
 use native.Mathlib.Omega.{arith}
 use lib.Dec.{leb, ltb}
 use Rattle.std.proofs.shelf.Tests.{both-ways, and-parts, and-right, ltb-true, ne-eqb}
@@ -15,16 +14,10 @@ use Rattle.bus.specs.Finding.{Finds, local-of}
 use Rattle.bus.proofs.Finding.{local-of-finds}
 use Rattle.tables.specs.Events.{kept-row, reset-row}
 use Rattle.tables.specs.Logins.{holder, reserved, free-row, nowhere, moved, held-back, followed, ticked, after-event, row-after}
-use Rattle.tables.specs.Rows.{row-at}
 use Rattle.tables.specs.declared.rows.LoginEvent.the-variants.{Reset, NetUpdate, Tick}
 use Rattle.tables.specs.declared.rows.LoginRow.{LoginRow}
 use Rattle.tables.specs.declared.rows.LoginState.the-variants.{Free, Reserved, Active}
 use Rattle.rules.proofs.Calm.{unheld-unreserved}
-
-pub at-map : (f : LoginRow → LoginRow) → f free-row ≡ free-row → (rows : List LoginRow) (i : ℕ) → row-at (map f rows) i ≡ f (row-at rows i)
-at-map f e [] i = sym e
-at-map f e (r ∷ rows) zero = refl
-at-map f e (r ∷ rows) (suc i) = at-map f e rows i
 
 -- if it is reserved, it is so from the start
 abbrev pub From-the-start : LoginRow → Type 0

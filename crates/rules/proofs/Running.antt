@@ -2,7 +2,7 @@
 use mathlib.Core.Bool.{Bool, true, false, cond, not, _&&_}
 use mathlib.Core.List.{List, [], _∷_, map}
 use mathlib.Core.Path.{_≡_, refl, sym, ap, subst}
-use Prim.Native.Nat.{ℕ, zero, suc}
+use Prim.Native.Nat.{ℕ}
 use lib.ListN.{replicate}
 use Rattle.std.proofs.shelf.Tests.{both-ways}
 use Rattle.bus.specs.Meaning.{BusModel}
@@ -21,6 +21,7 @@ use Rattle.rules.specs.declared.calls.Answer.{Answer}
 use Rattle.rules.specs.declared.calls.Call.{Call}
 use Rattle.rules.specs.declared.calls.Call.the-variants.{Request, BusReset, NetUpdate, Gap, Tick, AccessChange, BusNote, AccessNote}
 use Rattle.rules.proofs.Claims.{claims-thinner}
+use Rattle.rules.proofs.Rows.{map-at, replicate-at}
 use Rattle.rules.proofs.Served.{claims-after-request}
 use Rattle.rules.proofs.Walking.{either-book}
 use Rattle.rules.proofs.Thinning.{Like, like-after, like-kept, thinner-map}
@@ -28,18 +29,13 @@ use Rattle.rules.proofs.Thinning.{Like, like-after, like-kept, thinner-map}
 never : (r : LoginRow) → r ≡ free-row → holder r ≡ true → ⊥
 never r e h = both-ways (holder r) (ap holder e) h
 
-pub all-free : (n i : ℕ) → row-at (replicate n free-row) i ≡ free-row
-all-free zero i = refl
-all-free (suc n) zero = refl
-all-free (suc n) (suc i) = all-free n i
-
 -- a new target has no holder
 pub claims-at-first : (admits : Eui64 → ℕ → Bool) (n : ℕ) → Claims admits (replicate n free-row)
 claims-at-first admits n =
     record {
-      exclusive-holder-is-alone = λ i j h k x u. absurd (never _ (all-free n i) h);
-      initiator-holds-once = λ i j h k o u. absurd (never _ (all-free n i) h);
-      holders-are-admitted = λ i h. absurd (never _ (all-free n i) h);
+      exclusive-holder-is-alone = λ i j h k x u. absurd (never _ (replicate-at n i free-row) h);
+      initiator-holds-once = λ i j h k o u. absurd (never _ (replicate-at n i free-row) h);
+      holders-are-admitted = λ i h. absurd (never _ (replicate-at n i free-row) h);
     }
 
 -- who is kept at an access change is admitted
@@ -52,11 +48,6 @@ kept-is-admitted admits r h = go (holder r) (admits (r .«owner_eui_64») (r .un
   go false true p q h = absurd (both-ways (holder r) p h)
   go false false p q h = absurd (both-ways (holder r) p h)
 
-kept-at : (admits : Eui64 → ℕ → Bool) (rows : List LoginRow) (i : ℕ) → row-at (map (kept-row admits) rows) i ≡ kept-row admits (row-at rows i)
-kept-at admits [] i = refl
-kept-at admits (r ∷ rows) zero = refl
-kept-at admits (r ∷ rows) (suc i) = kept-at admits rows i
-
 claims-changed : (admits after : Eui64 → ℕ → Bool) (rows : List LoginRow) → Claims admits rows → Claims after (map (kept-row after) rows)
 claims-changed admits after rows c =
     let thin = claims-thinner admits rows (map (kept-row after) rows) (thinner-map (kept-row after) (like-kept after) rows) c in
@@ -64,7 +55,7 @@ claims-changed admits after rows c =
       exclusive-holder-is-alone = thin .exclusive-holder-is-alone;
       initiator-holds-once = thin .initiator-holds-once;
       holders-are-admitted = λ i h.
-          subst (λ (t : LoginRow). holder t ≡ true → after (t .«owner_eui_64») (t .unit) ≡ true) (sym (kept-at after rows i)) (kept-is-admitted after (row-at rows i)) h;
+          subst (λ (t : LoginRow). holder t ≡ true → after (t .«owner_eui_64») (t .unit) ≡ true) (sym (map-at (kept-row after) rows i free-row refl)) (kept-is-admitted after (row-at rows i)) h;
     }
 
 module _ {B A N : Type 0} (m : BusModel B) (n : AccessModel A N) (lawful : Lawful n) where

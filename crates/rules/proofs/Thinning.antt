@@ -2,17 +2,17 @@
 use mathlib.Core.Bool.{Bool, true, false, cond}
 use mathlib.Core.List.{List, [], _∷_, map}
 use mathlib.Core.Logic.{inl, inr}
-use mathlib.Core.Path.{_≡_, refl, sym, ap, subst, _∙_}
-use Prim.Native.Nat.{ℕ, zero, suc, _+_, _-_}
+use mathlib.Core.Path.{_≡_, refl, sym, ap, subst}
+use Prim.Native.Nat.{ℕ, zero, suc, _-_}
 use lib.Dec.{leb}
-use lib.ListN.{getD, set}
+use lib.ListN.{set}
 use native.Mathlib.Omega.{arith}
 use Rattle.std.specs.declared.option.Option.{Option}
 use Rattle.std.specs.declared.option.Option.the-variants.{Some, None}
 use Rattle.reader.specs.Ids.{local}
 use Rattle.reader.specs.declared.ids.NodeId.{NodeId}
 use Rattle.reader.specs.declared.ids.Eui64.{Eui64}
-use Rattle.tables.specs.Logins.{holder, free-row, moved, held-back, followed, ticked, state, after-event, row-after}
+use Rattle.tables.specs.Logins.{holder, free-row, moved, followed, ticked, state, after-event, row-after}
 use Rattle.tables.specs.Events.{kept-row}
 use Rattle.tables.specs.Rows.{row-at}
 use Rattle.tables.specs.declared.rows.LoginEvent.{LoginEvent}

@@ -6,11 +6,10 @@ use lib.Dec.{eqb, leb, ltb}
 use Rattle.std.specs.declared.option.Option.{Option}
 use Rattle.std.specs.declared.option.Option.the-variants.{Some, None}
 use Rattle.reader.specs.declared.ids.NodeId.{NodeId}
-use Rattle.reader.specs.declared.ids.Eui64.{Eui64}
 use Rattle.reader.specs.declared.refusal.Refusal.the-variants.{LogicalUnitNotSupported, ResourcesUnavailable, FunctionRejected, LoginIdNotRecognized, UnknownEui64, NodeHandleNotRecognized}
 use Rattle.reader.specs.declared.request.Request.{Request}
 use Rattle.bus.specs.Finding.{is-shown}
-use Rattle.tables.specs.Books.{Book, put-handle}
+use Rattle.tables.specs.Books.{put-handle}
 use Rattle.tables.specs.Events.{given-handle, moved-handle, swept-book}
 use Rattle.tables.specs.Rows.{row-at, handle-at, free-handle}
 use Rattle.tables.specs.Searches.{first, meant, free-handle-place}
