@@ -1,4 +1,4 @@
--- What a request leaves of a reserved login, and that none makes one. Assumes that FFFFh shows nobody.
+-- A reserved login stays as it is, and no other becomes reserved: rows one by one. Assumes nothing.
 use mathlib.Core.Bool.{Bool, true, false, cond, not, _&&_}
 use mathlib.Core.List.{List, [], _∷_}
 use mathlib.Core.Logic.{inl, inr}

@@ -1,4 +1,4 @@
--- Claims hold after every run. Assumes nothing.
+-- Rows that were freed or moved, and nothing else: claims still hold. Assumes nothing.
 use mathlib.Core.Bool.{Bool, true}
 use mathlib.Core.List.{List}
 use mathlib.Core.Path.{_≡_, sym, ap, subst, _∙_}

@@ -1,4 +1,4 @@
--- Claims hold after every request. Assumes nothing.
+-- A login given or updated: claims still hold. Assumes nothing.
 use mathlib.Core.Bool.{Bool, true, not}
 use mathlib.Core.List.{List}
 use mathlib.Core.Logic.{inl, inr}

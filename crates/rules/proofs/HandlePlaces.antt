@@ -1,4 +1,4 @@
--- Reading a place of a list that was mapped, searched or filled. Assumes nothing.
+-- Places that a search finds. Assumes nothing.
 use mathlib.Core.Bool.{Bool, true, false, cond}
 use mathlib.Core.List.{List, [], _∷_}
 use mathlib.Core.Path.{_≡_, refl, ap, subst}

@@ -1,4 +1,4 @@
--- Rows that were freed or moved, and nothing else: what holds of all holders still does. Assumes nothing.
+-- Rows that were freed or moved, and nothing else: who is the same holder. Assumes nothing.
 use mathlib.Core.Bool.{Bool, true, false, cond}
 use mathlib.Core.List.{List, [], _∷_, map}
 use mathlib.Core.Logic.{inl, inr}
