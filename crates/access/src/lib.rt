@@ -1,4 +1,6 @@
 // What every access list answers, by its meaning: a set of pairs of EUI-64 and unit.
+#![tactic(auto)]
+
 ghost use Rattle.std.specs.Prelude.{◌≡◌};
 ghost use Rattle.access.specs.Meaning.{AccessModel, Lawful};
 

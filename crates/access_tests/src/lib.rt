@@ -1,4 +1,6 @@
 // Whom pair tables, maker lists and stop lists admit, as one who uses them sees it.
+#![tactic(auto)]
+
 #[cfg(test)]
 mod tests {
     use access::Access;

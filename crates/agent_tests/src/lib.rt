@@ -1,4 +1,6 @@
 // What stations meet at a target, told as it happens.
+#![tactic(auto)]
+
 #[cfg(test)]
 mod bench;
 #[cfg(test)]

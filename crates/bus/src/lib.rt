@@ -1,4 +1,6 @@
 // What every bus answers, by its meaning: its own ID, and for each node ID an EUI-64 or nobody.
+#![tactic(auto)]
+
 ghost use Rattle.std.specs.Prelude.{◌≡◌};
 ghost use Rattle.bus.specs.Meaning.{BusModel, Lawful, somebody};
 ghost use Rattle.bus.specs.Finding.{Finds, local_of};

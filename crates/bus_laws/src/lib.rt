@@ -1,2 +1,4 @@
 // The laws of the buses: what is noted comes true.
+#![tactic(auto)]
+
 pub mod topology;

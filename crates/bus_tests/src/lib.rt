@@ -1,4 +1,6 @@
 // What happens on a local bus, a harness and portals, as one who uses them sees it.
+#![tactic(auto)]
+
 #[cfg(test)]
 mod tests {
     use bus::Bus;

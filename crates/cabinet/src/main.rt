@@ -1,4 +1,6 @@
 // Runs the journal on standard input through a new cabinet, and lists what each record was answered.
+#![tactic(auto)]
+
 use replay::listing::listing;
 use std::io::Read;
 

@@ -1,5 +1,7 @@
 // Runs the journal on standard input through a new cabinet, and shows in words what each record was and what it drew.
 // The argument `tables` asks for the holders and the node handles after each record.
+#![tactic(auto)]
+
 use accounts::accounting::account;
 use std::env;
 use std::io::Read;

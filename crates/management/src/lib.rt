@@ -1,4 +1,6 @@
 // The management agent: it serves every request by the rules, over any bus and any access list.
+#![tactic(auto)]
+
 mod handles;
 mod logins;
 pub mod parts;

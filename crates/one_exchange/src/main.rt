@@ -1,4 +1,6 @@
 // One exchange with a station, from its signal to its status block, and what the areas then hold.
+#![tactic(auto)]
+
 use access::pairs::{PairNote, PairTable};
 use agent::exchange::Idle;
 use agent::target::Target;

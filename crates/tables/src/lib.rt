@@ -1,4 +1,6 @@
 // The tables of a target: who is logged in, which node handles are given, and whose turn a place is.
+#![tactic(auto)]
+
 pub mod book;
 pub mod events;
 pub mod searches;

@@ -1,4 +1,6 @@
 // Runs the journal on standard input through a new cabinet, and shows all that each record did, for other programs.
+#![tactic(auto)]
+
 use accounts::tracing::trace_journal;
 use std::io::Read;
 

@@ -23,7 +23,7 @@ module _ {X : Type 0} (p : X → Bool) (xs ys : List X) (k i : ℕ) (d : X) (so_
 pub loop-e-preserved : goal.loop-e-preserved
 loop-e-preserved c =
     let other : Entry → Bool = λ e. not (eqb e.node.0 c.args.node.0) in
-    let xs = c.in-use-e-items.result.now in
+    let xs = c.in_use-e-items.result.now in
     let i = c.loop-e.e-index in
     let d : Entry = record { node = record { 0 = 0 }; eui = record { 0 = 0 } } in
     elim c.if-ne.branch [
@@ -37,5 +37,5 @@ loop-e-preserved c =
 
 pub returns : goal.returns
 returns c =
-    let e = take_all c.loop-e.e-index c.in-use-e-items.result.now (search rules) in
+    let e = take_all c.loop-e.e-index c.in_use-e-items.result.now (search rules) in
     cc

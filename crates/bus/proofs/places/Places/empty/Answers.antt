@@ -3,5 +3,5 @@ use Rattle.std.proofs.Common.{refl}
 use Rattle.bus.specs.Seating.{apart_empty}
 use Rattle.bus.proofs.places.Places.empty.Goals as goal
 
-pub invariant-of-result : goal.invariant-of-result
-invariant-of-result c = (refl, (apart_empty 63, tt))
+pub invariant_of-result : goal.invariant_of-result
+invariant_of-result c = record { size = refl; apart = apart_empty 63 }

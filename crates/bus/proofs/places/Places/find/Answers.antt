@@ -6,10 +6,10 @@ use Rattle.bus.specs.Places.{place}
 use Rattle.bus.specs.Seating.{finds_at, finds_nowhere, finds_nobody, found_is}
 use Rattle.bus.proofs.places.Places.find.Goals as goal
 
-pub returns-then-is-none : goal.returns-then-is-none
-returns-then-is-none c =
+pub returns-then-is_none : goal.returns-then-is_none
+returns-then-is_none c =
     let s = c.args.self.now in
-    let f = finds_nobody s.euis c.args.eui (sym c.if-is-none.ensures) in
+    let f = finds_nobody s.euis c.args.eui (sym c.if-is_none.ensures) in
     record { finds = f; value = found_is s.euis s.apart c.args.eui None f }
 
 pub returns-then-eq : goal.returns-then-eq
@@ -17,7 +17,7 @@ returns-then-eq c =
     let s = c.args.self.now in
     let k = c.loop-k.k in
     let here : place s.euis k ≡ c.args.eui = search (rules, get_or_default) in
-    let f = finds_at s.euis k c.args.eui c.loop-k-test.true here (sym c.if-is-none.ensures) in
+    let f = finds_at s.euis k c.args.eui c.loop-k-test.true here (sym c.if-is_none.ensures) in
     record { finds = f; value = found_is s.euis s.apart c.args.eui (Some (node_id (0xFFC0 + k))) f }
 
 pub loop-k-preserved : goal.loop-k-preserved
