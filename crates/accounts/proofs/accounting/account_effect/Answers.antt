@@ -10,6 +10,6 @@ pub returns : goal.returns
 returns c =
     let e = c.args.effect in
     let front = take_min e.response e.stored (c.min.result - 0) (omega (arith, c.min.ensures)) in
-    IfOk-weaker c.account-lines.result _ _ (
+    IfOk-weaker c.account_lines.result _ _ (
     λ s p. p ∙ ap (λ (r : List ℕ). account_text c.args.shown c.args.count (entry c.args.record) e.refusal r (book_of c.args.tables.now)) front
-    ) c.account-lines.ensures
+    ) c.account_lines.ensures

@@ -7,10 +7,10 @@ use Rattle.accounts.proofs.accounting.account_records.Goals as goal
 
 pub loop-k-preserved : goal.loop-k-preserved
 loop-k-preserved c =
-    told_more after_entry (record_account c.args.shown) c.args.records.now c.loop-k.k (data_of c.loop-k.cabinet) (string_bytes c.loop-k.text) _ c.loop-k.invariant _ (data_of c.account-record.new.cabinet) c.as-str.result.now (string_bytes c.push-str.new.self) (search rules)
-    (c.as-str.ensures.value ∙ c.in-ok-row.ensures.text)
-    c.account-record.ensures.after
-    c.in-ok-push-str.ensures.bytes
+    told_more after_entry (record_account c.args.shown) c.args.records.now c.loop-k.k (data_of c.loop-k.cabinet) (string_bytes c.loop-k.text) _ c.loop-k.invariant _ (data_of c.account_record.new.cabinet) c.as_str.result.now (string_bytes c.push_str.new.self) (search rules)
+    (c.as_str.ensures.value ∙ c.in_ok-row.ensures.text)
+    c.account_record.ensures.after
+    c.in_ok-push_str.ensures.bytes
 
 pub returns : goal.returns
 returns c =

@@ -8,13 +8,13 @@ pub loop-k-preserved : goal.loop-k-preserved
 loop-k-preserved c =
     let rs = c.args.records.now in
     let now = data_of c.loop-k.cabinet in
-    let next = data_of c.trace-record.new.cabinet in
+    let next = data_of c.trace_record.new.cabinet in
     let inside : c.loop-k.k < length rs = search rules in (
-      told_more after_entry record_trace rs c.loop-k.k now (string_bytes c.loop-k.text) _ c.loop-k.invariant.0 _ next c.as-str.result.now (string_bytes c.push-str.new.self) inside
-          (c.as-str.ensures.value ∙ c.in-ok-row.ensures.text)
-          c.trace-record.ensures.after
-          c.in-ok-push-str.ensures.bytes,
-      after_more after_entry record_trace rs c.loop-k.k now _ next _ inside c.trace-record.ensures.after c.loop-k.invariant.1,
+      told_more after_entry record_trace rs c.loop-k.k now (string_bytes c.loop-k.text) _ c.loop-k.invariant.0 _ next c.as_str.result.now (string_bytes c.push_str.new.self) inside
+          (c.as_str.ensures.value ∙ c.in_ok-row.ensures.text)
+          c.trace_record.ensures.after
+          c.in_ok-push_str.ensures.bytes,
+      after_more after_entry record_trace rs c.loop-k.k now _ next _ inside c.trace_record.ensures.after c.loop-k.invariant.1,
     )
 
 pub returns : goal.returns

@@ -27,7 +27,7 @@ loop-call-preserved g c =
     let call = c.call-item.result in
     let step = subst (λ (one : Call g.row.A-Note.Denot). Step g.B.Bus.model g.A.Access.model before one c.make-answer.result after) c.call-item.is c.make-answer.ensures in
     subst (λ (answers : List Answer). Plays g.B.Bus.model g.A.Access.model start (take (i + 1) calls) answers after) (
-    sym (pushed (c.make-answer.result ∷ []) refl c.in-ok-push.was c.push.ensures.items)
+    sym (pushed (c.make-answer.result ∷ []) refl c.in_ok-push.was c.push.ensures.items)
     ) (
     one_more g.B.Bus.model g.A.Access.model start calls (vec_items c.loop-call.answers) i before after call c.make-answer.result c.loop-call-test.true c.loop-call.invariant step
     )
@@ -40,8 +40,8 @@ returns g c =
     let end = snapshot_of c.loop-call.target in
     let all = subst (λ (made : List (Call g.row.A-Note.Denot)). Plays g.B.Bus.model g.A.Access.model start made answers end) (take_all c.loop-call.call-index calls c.loop-call-test.false) c.loop-call.invariant in
     subst (λ (first : Snapshot g.row.B.Denot g.row.A.Denot). LawAbiding g.B.Bus.model g.A.Access.model first calls answers end) c.new-target.ensures (
-    abides g.B.Bus.model g.A.Access.model start calls answers end (ap (λ (x : Snapshot g.row.B.Denot g.row.A.Denot). x.book) c.new-target.ensures) c.law-holds-over-every-run.ensures all
+    abides g.B.Bus.model g.A.Access.model start calls answers end (ap (λ (x : Snapshot g.row.B.Denot g.row.A.Denot). x.book) c.new-target.ensures) c.law_holds_over_every_run.ensures all
     )
 
-pub returns-in-err-push : goal.returns-in-err-push
-returns-in-err-push g c = let p = err_from_is_err_and c.from-residual.result c.from-residual.ensures.1 in rw p.1 tt
+pub returns-in_err-push : goal.returns-in_err-push
+returns-in_err-push g c = let p = err_from_is_err_and c.from-residual.result c.from-residual.ensures.1 in rw p.1 tt

@@ -8,4 +8,4 @@ returns-then-allocate c =
     IfOk-weaker c.format.result _ _ (λ s e. (simp c.half-handle.ensures at e) ∙ sym (cond-true c.args.allocate _ _ c.if-allocate.true)) c.format.ensures.ok
 
 pub returns : goal.returns
-returns c = IfOk-weaker c.from-str.result _ _ (λ s e. e ∙ sym (cond-false c.args.allocate _ _ c.if-allocate.false)) c.from-str.ensures.ok
+returns c = IfOk-weaker c.from_str.result _ _ (λ s e. e ∙ sym (cond-false c.args.allocate _ _ c.if-allocate.false)) c.from_str.ensures.ok

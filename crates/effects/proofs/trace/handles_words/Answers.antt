@@ -4,32 +4,32 @@ use Rattle.logins.specs.declared.rows.Handle.{Handle}
 use Rattle.effects.specs.Trace.{hyphen, node_handle_text}
 use Rattle.effects.proofs.Listing.{listed_more, listed_other, listed_all}
 use Rattle.effects.proofs.trace.handles_words.Goals as goal
-use Rattle.effects.proofs.trace.handles_words.Goals.{then-is-in-use+in-ok-row+in-ok-push-str, else-is-in-use}
+use Rattle.effects.proofs.trace.handles_words.Goals.{then-is_in_use+in_ok-row+in_ok-push_str, else-is_in_use}
 
 pub loop-place-preserved : goal.loop-place-preserved
 loop-place-preserved c =
     let rows = c.args.tables.now.handles in
     let was : List ℕ = string_bytes c.loop-place.text in
-    let after : List ℕ = string_bytes c.if-is-in-use.text in
+    let after : List ℕ = string_bytes c.if-is_in_use.text in
     let inside : c.loop-place.place < length rows = search rules in
-    let held : c.is-in-use.result ≡ in_use (handle_at rows c.loop-place.place) = c.is-in-use.ensures ∙ ap in_use c.handle-handle.ensures in
-    elim c.if-is-in-use.branch [
-      | then-is-in-use+in-ok-row+in-ok-push-str w ↦
-          let row : w.as-str.result.now ≡ node_handle_text c.loop-place.first c.loop-place.place (handle_at rows c.loop-place.place) =
-          w.as-str.ensures.value ∙ w.in-ok-row.ensures
+    let held : c.is_in_use.result ≡ in_use (handle_at rows c.loop-place.place) = c.is_in_use.ensures ∙ ap in_use c.handle-handle.ensures in
+    elim c.if-is_in_use.branch [
+      | then-is_in_use+in_ok-row+in_ok-push_str w ↦
+          let row : w.as_str.result.now ≡ node_handle_text c.loop-place.first c.loop-place.place (handle_at rows c.loop-place.place) =
+          w.as_str.ensures.value ∙ w.in_ok-row.ensures
           ∙ ap (λ (r : Handle). node_handle_text c.loop-place.first c.loop-place.place r) c.handle-handle.ensures in
-          listed_more in_use node_handle_text hyphen rows c.loop-place.place c.loop-place.first was _ c.loop-place.invariant free_handle after c.if-is-in-use.first inside
-          (sym held ∙ w.if-is-in-use.true)
-          (ap string_bytes w.text-is ∙ w.in-ok-push-str.ensures.bytes ∙ ap (λ (z : List ℕ). was ++ z) row)
+          listed_more in_use node_handle_text hyphen rows c.loop-place.place c.loop-place.first was _ c.loop-place.invariant free_handle after c.if-is_in_use.first inside
+          (sym held ∙ w.if-is_in_use.true)
+          (ap string_bytes w.text-is ∙ w.in_ok-push_str.ensures.bytes ∙ ap (λ (z : List ℕ). was ++ z) row)
           w.first-is
-      | else-is-in-use w ↦
-          listed_other in_use node_handle_text hyphen rows c.loop-place.place c.loop-place.first was _ c.loop-place.invariant free_handle after c.if-is-in-use.first inside
-          (sym held ∙ w.if-is-in-use.false)
+      | else-is_in_use w ↦
+          listed_other in_use node_handle_text hyphen rows c.loop-place.place c.loop-place.first was _ c.loop-place.invariant free_handle after c.if-is_in_use.first inside
+          (sym held ∙ w.if-is_in_use.false)
           (ap string_bytes w.text-is)
           w.first-is
     ]
 
 pub returns : goal.returns
 returns c =
-    listed_all in_use node_handle_text hyphen c.args.tables.now.handles c.loop-place.place c.loop-place.first (string_bytes c.loop-place.text) _ c.loop-place.invariant (string_bytes c.push-str-2.new.self) (search rules)
-    (c.in-ok-push-str-2.ensures.bytes ∙ ap (λ (z : List ℕ). string_bytes c.loop-place.text ++ z) c.hyphen.ensures)
+    listed_all in_use node_handle_text hyphen c.args.tables.now.handles c.loop-place.place c.loop-place.first (string_bytes c.loop-place.text) _ c.loop-place.invariant (string_bytes c.push_str-2.new.self) (search rules)
+    (c.in_ok-push_str-2.ensures.bytes ∙ ap (λ (z : List ℕ). string_bytes c.loop-place.text ++ z) c.hyphen.ensures)

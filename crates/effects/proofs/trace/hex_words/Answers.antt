@@ -7,9 +7,9 @@ use Rattle.effects.proofs.trace.hex_words.Goals as goal
 
 pub loop-byte-preserved : goal.loop-byte-preserved
 loop-byte-preserved c =
-    let digits : c.as-str.result.now ≡ hex2 (get_or c.args.bytes.now c.loop-byte.byte-index 0) = c.as-str.ensures.value ∙ c.in-ok-digits.ensures.ok in
-    grown hex_bytes hex_bytes c.args.bytes.now c.loop-byte.byte-index (string_bytes c.loop-byte.text) _ c.loop-byte.invariant 0 (hex2 (get_or c.args.bytes.now c.loop-byte.byte-index 0)) (string_bytes c.push-str.new.self) (search rules) refl
-    (c.in-ok-push-str.ensures.bytes ∙ ap (λ (z : List ℕ). string_bytes c.loop-byte.text ++ z) digits)
+    let digits : c.as_str.result.now ≡ hex2 (get_or c.args.bytes.now c.loop-byte.byte-index 0) = c.as_str.ensures.value ∙ c.in_ok-digits.ensures.ok in
+    grown hex_bytes hex_bytes c.args.bytes.now c.loop-byte.byte-index (string_bytes c.loop-byte.text) _ c.loop-byte.invariant 0 (hex2 (get_or c.args.bytes.now c.loop-byte.byte-index 0)) (string_bytes c.push_str.new.self) (search rules) refl
+    (c.in_ok-push_str.ensures.bytes ∙ ap (λ (z : List ℕ). string_bytes c.loop-byte.text ++ z) digits)
 
 pub returns : goal.returns
 returns c =

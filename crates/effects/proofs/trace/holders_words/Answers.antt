@@ -5,32 +5,32 @@ use Rattle.logins.specs.declared.rows.LoginRow.{LoginRow}
 use Rattle.effects.specs.Trace.{hyphen, holder_text}
 use Rattle.effects.proofs.Listing.{listed_more, listed_other, listed_all}
 use Rattle.effects.proofs.trace.holders_words.Goals as goal
-use Rattle.effects.proofs.trace.holders_words.Goals.{then-is-holder+in-ok-row+in-ok-push-str, else-is-holder}
+use Rattle.effects.proofs.trace.holders_words.Goals.{then-is_holder+in_ok-row+in_ok-push_str, else-is_holder}
 
 pub loop-slot-preserved : goal.loop-slot-preserved
 loop-slot-preserved c =
     let rows = c.args.tables.now.logins in
     let was : List ℕ = string_bytes c.loop-slot.text in
-    let after : List ℕ = string_bytes c.if-is-holder.text in
+    let after : List ℕ = string_bytes c.if-is_holder.text in
     let inside : c.loop-slot.slot < length rows = search rules in
-    let held : c.is-holder.result ≡ holder (row_at rows c.loop-slot.slot) = c.is-holder.ensures ∙ ap holder c.login-login.ensures in
-    elim c.if-is-holder.branch [
-      | then-is-holder+in-ok-row+in-ok-push-str w ↦
-          let row : w.as-str.result.now ≡ holder_text c.loop-slot.first c.loop-slot.slot (row_at rows c.loop-slot.slot) =
-          w.as-str.ensures.value ∙ w.in-ok-row.ensures
+    let held : c.is_holder.result ≡ holder (row_at rows c.loop-slot.slot) = c.is_holder.ensures ∙ ap holder c.login-login.ensures in
+    elim c.if-is_holder.branch [
+      | then-is_holder+in_ok-row+in_ok-push_str w ↦
+          let row : w.as_str.result.now ≡ holder_text c.loop-slot.first c.loop-slot.slot (row_at rows c.loop-slot.slot) =
+          w.as_str.ensures.value ∙ w.in_ok-row.ensures
           ∙ ap (λ (r : LoginRow). holder_text c.loop-slot.first c.loop-slot.slot r) (w.row.ensures.value ∙ c.login-login.ensures) in
-          listed_more holder holder_text hyphen rows c.loop-slot.slot c.loop-slot.first was _ c.loop-slot.invariant free_row after c.if-is-holder.first inside
-          (sym held ∙ w.if-is-holder.true)
-          (ap string_bytes w.text-is ∙ w.in-ok-push-str.ensures.bytes ∙ ap (λ (z : List ℕ). was ++ z) row)
+          listed_more holder holder_text hyphen rows c.loop-slot.slot c.loop-slot.first was _ c.loop-slot.invariant free_row after c.if-is_holder.first inside
+          (sym held ∙ w.if-is_holder.true)
+          (ap string_bytes w.text-is ∙ w.in_ok-push_str.ensures.bytes ∙ ap (λ (z : List ℕ). was ++ z) row)
           w.first-is
-      | else-is-holder w ↦
-          listed_other holder holder_text hyphen rows c.loop-slot.slot c.loop-slot.first was _ c.loop-slot.invariant free_row after c.if-is-holder.first inside
-          (sym held ∙ w.if-is-holder.false)
+      | else-is_holder w ↦
+          listed_other holder holder_text hyphen rows c.loop-slot.slot c.loop-slot.first was _ c.loop-slot.invariant free_row after c.if-is_holder.first inside
+          (sym held ∙ w.if-is_holder.false)
           (ap string_bytes w.text-is)
           w.first-is
     ]
 
 pub returns : goal.returns
 returns c =
-    listed_all holder holder_text hyphen c.args.tables.now.logins c.loop-slot.slot c.loop-slot.first (string_bytes c.loop-slot.text) _ c.loop-slot.invariant (string_bytes c.push-str-2.new.self) (search rules)
-    (c.in-ok-push-str-2.ensures.bytes ∙ ap (λ (z : List ℕ). string_bytes c.loop-slot.text ++ z) c.hyphen.ensures)
+    listed_all holder holder_text hyphen c.args.tables.now.logins c.loop-slot.slot c.loop-slot.first (string_bytes c.loop-slot.text) _ c.loop-slot.invariant (string_bytes c.push_str-2.new.self) (search rules)
+    (c.in_ok-push_str-2.ensures.bytes ∙ ap (λ (z : List ℕ). string_bytes c.loop-slot.text ++ z) c.hyphen.ensures)

@@ -5,11 +5,11 @@ use Rattle.replay.proofs.listing.lines.Goals as goal
 
 pub loop-k-preserved : goal.loop-k-preserved
 loop-k-preserved c =
-    line_more c.args.records.now c.loop-k.k c.loop-k.left.now (string_bytes c.loop-k.text) _ c.loop-k.invariant _ c.next-number-number.result.0 c.next-number-number.result.1.now c.as-str.result.now (string_bytes c.push-str.new.self) (search rules)
-    c.next-number-number.ensures.number
-    c.next-number-number.ensures.rest
-    (c.as-str.ensures.value ∙ c.in-ok-row.ensures)
-    (pushed c.as-str.result.now refl c.in-ok-push-str.was c.push-str.ensures.bytes)
+    line_more c.args.records.now c.loop-k.k c.loop-k.left.now (string_bytes c.loop-k.text) _ c.loop-k.invariant _ c.next_number-number.result.0 c.next_number-number.result.1.now c.as_str.result.now (string_bytes c.push_str.new.self) (search rules)
+    c.next_number-number.ensures.number
+    c.next_number-number.ensures.rest
+    (c.as_str.ensures.value ∙ c.in_ok-row.ensures)
+    (pushed c.as_str.result.now refl c.in_ok-push_str.was c.push_str.ensures.bytes)
 
 pub returns : goal.returns
 returns c = line_all c.args.records.now c.loop-k.k c.loop-k.left.now (string_bytes c.loop-k.text) _ c.loop-k.invariant (search rules)

@@ -13,25 +13,25 @@ use Rattle.replay.proofs.listing.listing.Goals as goal
 
 pub returns : goal.returns
 returns c =
-    let rs = vec_items c.in-ok-journal.journal.records in
-    let why = c.in-ok-journal.journal.refusal in
-    let slice : c.as-slice-records.result.now ≡ rs = c.as-slice-records.ensures.value in
-    let calls : c.as-slice.result.now ≡ calls_of (entries rs) =
-    c.as-slice.ensures.value ∙ c.in-ok-calls.ensures ∙ ap (λ (z : List Record). calls_of (entries z)) slice in
-    let given : c.as-slice-2.result.now ≡ answers new_cabinet (calls_of (entries rs)) =
-    c.as-slice-2.ensures.value ∙ c.in-ok-given.ensures ∙ ap (answers new_cabinet) calls in
-    let drawn : numbers_from c.as-slice-2.result.now (entries c.as-slice-records.result.now) ≡ numbers new_cabinet (entries rs) =
-    ap (λ (z : List Record). numbers_from c.as-slice-2.result.now (entries z)) slice
+    let rs = vec_items c.in_ok-journal.journal.records in
+    let why = c.in_ok-journal.journal.refusal in
+    let slice : c.as_slice-records.result.now ≡ rs = c.as_slice-records.ensures.value in
+    let calls : c.as_slice.result.now ≡ calls_of (entries rs) =
+    c.as_slice.ensures.value ∙ c.in_ok-calls.ensures ∙ ap (λ (z : List Record). calls_of (entries z)) slice in
+    let given : c.as_slice-2.result.now ≡ answers new_cabinet (calls_of (entries rs)) =
+    c.as_slice-2.ensures.value ∙ c.in_ok-given.ensures ∙ ap (answers new_cabinet) calls in
+    let drawn : numbers_from c.as_slice-2.result.now (entries c.as_slice-records.result.now) ≡ numbers new_cabinet (entries rs) =
+    ap (λ (z : List Record). numbers_from c.as_slice-2.result.now (entries z)) slice
     ∙ ap (λ (z : List Answer). numbers_from z (entries rs)) given ∙ numbers_drawn new_cabinet (entries rs) in
-    let told : string_bytes c.in-ok-text.text ≡ lines_text 1 (numbers new_cabinet (entries rs)) =
-    c.in-ok-text.ensures ∙ ap (lines_text 1) drawn in
-    let count : length c.as-slice-records.result.now ≡ length (entries rs) = ap length slice ∙ sym (length-map rs entry) in
-    let ended : c.as-str.result.now ≡ end_text (length (entries rs)) why =
-    c.as-str.ensures.value ∙ c.in-ok-end.ensures ∙ ap (λ (n : ℕ). end_text n why) count in
-    let grown = pushed c.as-str.result.now refl c.in-ok-push-str.was c.push-str.ensures.bytes in
+    let told : string_bytes c.in_ok-text.text ≡ lines_text 1 (numbers new_cabinet (entries rs)) =
+    c.in_ok-text.ensures ∙ ap (lines_text 1) drawn in
+    let count : length c.as_slice-records.result.now ≡ length (entries rs) = ap length slice ∙ sym (length-map rs entry) in
+    let ended : c.as_str.result.now ≡ end_text (length (entries rs)) why =
+    c.as_str.ensures.value ∙ c.in_ok-end.ensures ∙ ap (λ (n : ℕ). end_text n why) count in
+    let grown = pushed c.as_str.result.now refl c.in_ok-push_str.was c.push_str.ensures.bytes in
     record {
       read = entries rs;
       refusal = why;
-      reads = c.in-ok-journal.ensures;
-      lines = grown ∙ ap (λ (z : List ℕ). z ++ c.as-str.result.now) told ∙ ap (λ (z : List ℕ). lines_text 1 (numbers new_cabinet (entries rs)) ++ z) ended;
+      reads = c.in_ok-journal.ensures;
+      lines = grown ∙ ap (λ (z : List ℕ). z ++ c.as_str.result.now) told ∙ ap (λ (z : List ℕ). lines_text 1 (numbers new_cabinet (entries rs)) ++ z) ended;
     }

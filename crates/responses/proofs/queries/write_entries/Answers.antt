@@ -6,12 +6,12 @@ use Rattle.logins.specs.declared.rows.Holders.TheVariants.{OfUnit}
 use Rattle.rules.specs.Responses.{query_entry}
 use Rattle.responses.proofs.Telling.{told_all, told_full, told_other, told_more}
 use Rattle.responses.proofs.queries.write_entries.Goals as goal
-use Rattle.responses.proofs.queries.write_entries.Goals.{then-is-among+else-left-lt12, else-is-among}
+use Rattle.responses.proofs.queries.write_entries.Goals.{then-is_among+else-left-lt12, else-is_among}
 
 pub returns-then-left-lt12 : goal.returns-then-left-lt12
 returns-then-left-lt12 c =
     let rows = c.args.tables.now.logins in
-    let meant : among (OfUnit c.args.unit) (row_at rows c.loop-slot.slot) ≡ _ = sym (ap (among (OfUnit c.args.unit)) c.login-login.ensures) ∙ sym c.is-among.ensures ∙ c.if-is-among.true in
+    let meant : among (OfUnit c.args.unit) (row_at rows c.loop-slot.slot) ≡ _ = sym (ap (among (OfUnit c.args.unit)) c.login-login.ensures) ∙ sym c.is_among.ensures ∙ c.if-is_among.true in
     record {
       within = omega (arith, c.loop-slot.invariant.1);
       told = told_full rows c.args.unit c.loop-slot.left c.loop-slot.slot (take c.loop-slot.at c.loop-slot.area) _ c.loop-slot.invariant.0 (search rules) meant c.if-left-lt12.true;
@@ -21,20 +21,20 @@ pub loop-slot-preserved : goal.loop-slot-preserved
 loop-slot-preserved c =
     let rows = c.args.tables.now.logins in
     let before = take c.loop-slot.at c.loop-slot.area in
-    let after = take c.if-is-among.at c.if-is-among.area in
+    let after = take c.if-is_among.at c.if-is_among.area in
     let inside : c.loop-slot.slot < length rows = search rules in
-    let seen : c.is-among.result ≡ among (OfUnit c.args.unit) (row_at rows c.loop-slot.slot) = c.is-among.ensures ∙ ap (among (OfUnit c.args.unit)) c.login-login.ensures in
-    elim c.if-is-among.branch [
-      | then-is-among+else-left-lt12 w ↦
+    let seen : c.is_among.result ≡ among (OfUnit c.args.unit) (row_at rows c.loop-slot.slot) = c.is_among.ensures ∙ ap (among (OfUnit c.args.unit)) c.login-login.ensures in
+    elim c.if-is_among.branch [
+      | then-is_among+else-left-lt12 w ↦
           let put : after ≡ before ++ query_entry c.loop-slot.slot (row_at rows c.loop-slot.slot) =
-          let written = w.copy-from-slice.ensures.after ∙ w.entry.ensures ∙ ap (query_entry c.loop-slot.slot) c.login-login.ensures in
-          ap (take c.if-is-among.at) w.area-is
-          ∙ take-put_mid c.loop-slot.at _ c.loop-slot.area _ c.if-is-among.at (omega (arith, w.at-is, ap length written)) (omega (arith, c.loop-slot.invariant.1))
+          let written = w.copy_from_slice.ensures.after ∙ w.entry.ensures ∙ ap (query_entry c.loop-slot.slot) c.login-login.ensures in
+          ap (take c.if-is_among.at) w.area-is
+          ∙ take-put_mid c.loop-slot.at _ c.loop-slot.area _ c.if-is_among.at (omega (arith, w.at-is, ap length written)) (omega (arith, c.loop-slot.invariant.1))
           ∙ ap (λ (z : List ℕ). before ++ z) written in
-          (told_more rows c.args.unit c.loop-slot.left c.loop-slot.slot before _ c.loop-slot.invariant.0 inside after c.if-is-among.left (sym seen ∙ w.if-is-among.true) w.if-left-lt12.false put w.left-is, omega (arith, w.at-is, c.loop-slot.invariant.1))
-      | else-is-among w ↦
-          let same : after ≡ before = ap (λ (n : ℕ). take n c.if-is-among.area) w.at-is ∙ ap (take c.loop-slot.at) w.area-is in
-          (told_other rows c.args.unit c.loop-slot.left c.loop-slot.slot before _ c.loop-slot.invariant.0 inside after c.if-is-among.left (sym seen ∙ w.if-is-among.false) same w.left-is, omega (arith, w.at-is, c.loop-slot.invariant.1))
+          (told_more rows c.args.unit c.loop-slot.left c.loop-slot.slot before _ c.loop-slot.invariant.0 inside after c.if-is_among.left (sym seen ∙ w.if-is_among.true) w.if-left-lt12.false put w.left-is, omega (arith, w.at-is, c.loop-slot.invariant.1))
+      | else-is_among w ↦
+          let same : after ≡ before = ap (λ (n : ℕ). take n c.if-is_among.area) w.at-is ∙ ap (take c.loop-slot.at) w.area-is in
+          (told_other rows c.args.unit c.loop-slot.left c.loop-slot.slot before _ c.loop-slot.invariant.0 inside after c.if-is_among.left (sym seen ∙ w.if-is_among.false) same w.left-is, omega (arith, w.at-is, c.loop-slot.invariant.1))
     ]
 
 pub returns : goal.returns

@@ -4,7 +4,7 @@ use Rattle.std.proofs.lemmas.List.Elements.{filter_more}
 use Rattle.std.proofs.lemmas.List.{take_all, take_more_set}
 use Rattle.std.proofs.lemmas.Bool.Decides.{nat_tests}
 use Rattle.access.proofs.slots.Table.without.Goals as goal
-use Rattle.access.proofs.slots.Table.without.Goals.{then-not-is-alike, else-not-is-alike}
+use Rattle.access.proofs.slots.Table.without.Goals.{then-not-is_alike, else-not-is_alike}
 
 module _ {X : Type 0} (p : X → Bool) (xs ys : List X) (k i : ℕ) (x : X) (here : x ≡ get_or xs i x) (so_far : take k ys ≡ filter p (take i xs)) (more : i < length xs) where
   kept : k < length ys → p x ≡ true → take (k + 1) (set ys k x) ≡ filter p (take (i + 1) xs)
@@ -22,19 +22,19 @@ module _ {X : Type 0} (p : X → Bool) (xs ys : List X) (k i : ℕ) (x : X) (her
 pub loop-e-preserved : goal.loop-e-preserved
 loop-e-preserved g c =
     let other = λ (x : g.row.E.Denot). not (g.E.Keyed.alike x c.args.like) in
-    let xs = c.in-use-e-items.result.now in
+    let xs = c.in_use-e-items.result.now in
     let i = c.loop-e.e-index in
     let x = c.e-item.result in
-    elim c.if-not-is-alike.branch [
-      | then-not-is-alike w ↦
+    elim c.if-not-is_alike.branch [
+      | then-not-is_alike w ↦
           let passes : other x ≡ true = grind (arith, nat_tests) in
           rw (w.count-is, w.entries-is) (kept other xs c.loop-e.entries c.loop-e.count i x c.e-item.is c.loop-e.invariant.0 (search rules) (search rules) passes, omega arith, simp length-set (search rules))
-      | else-not-is-alike w ↦
+      | else-not-is_alike w ↦
           let fails : other x ≡ false = grind (arith, nat_tests) in
           rw (w.count-is, w.entries-is) (passed_over other xs c.loop-e.entries c.loop-e.count i x c.e-item.is c.loop-e.invariant.0 (search rules) fails, omega arith, search rules)
     ]
 
 pub returns : goal.returns
 returns g c =
-    let e = take_all c.loop-e.e-index c.in-use-e-items.result.now (search rules) in
+    let e = take_all c.loop-e.e-index c.in_use-e-items.result.now (search rules) in
     cc

@@ -16,7 +16,7 @@ returns g c =
     let y = snapshot_of c.serve-served.new.target in
     let after = c.serve-served.new.response in
     let served = c.serve-served.result in
-    let fits = checked_fits bytes area q (sym c.in-Ok.ensures) c.if-response-lt-SMALLEST-AREA.false in
+    let fits = checked_fits bytes area q (sym c.in-Ok.ensures) c.if-response-lt-SMALLEST_AREA.false in
     let did = answers m n s bytes area q x y after served fits c.serve-served.ensures.served c.serve-served.ensures.area c.serve-served.ensures.step in
     record {
       answers =

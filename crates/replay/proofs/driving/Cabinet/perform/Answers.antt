@@ -11,6 +11,6 @@ returns-in-Ok c =
     let before = data_of c.args.self.now in
     record {
       effect = c.quiet.ensures ∙ ap quiet c.make.ensures.answer ∙ ap (λ (r : Result CabinetCall Refusal). quiet (drawn before r)) c.in-Ok.ensures
-          ∙ other_record before c.args.record c.in-default.not-Request;
+          ∙ other_record before c.args.record c.in_default.not-Request;
       after = c.make.ensures.after ∙ ap (after_record before) c.in-Ok.ensures;
     }

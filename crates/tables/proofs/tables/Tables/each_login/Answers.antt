@@ -7,9 +7,9 @@ use Rattle.tables.proofs.tables.Tables.each_login.Goals as goal
 
 pub loop-slot-preserved : goal.loop-slot-preserved
 loop-slot-preserved c =
-    logins_more (book_of c.args.self.now) (book_of c.loop-slot.self) (book_of c.put-login.new.self) c.loop-slot.slot (λ r. row_after r c.args.event) (row_of c.after-login.result) (search rules) c.loop-slot.invariant
+    logins_more (book_of c.args.self.now) (book_of c.loop-slot.self) (book_of c.put_login.new.self) c.loop-slot.slot (λ r. row_after r c.args.event) (row_of c.after-login.result) (search rules) c.loop-slot.invariant
     (c.after-login.ensures ∙ ap (λ (r : LoginRow). row_after r c.args.event) c.login.ensures)
-    c.put-login.ensures
+    c.put_login.ensures
 
 pub returns : goal.returns
 returns c =

@@ -6,8 +6,8 @@ use Rattle.logins.specs.Tests.{meant}
 use Rattle.tables.specs.Searches.{first}
 use Rattle.tables.proofs.tables.Tables.find_handle.Goals as goal
 
-pub returns-then-is-meant : goal.returns-then-is-meant
-returns-then-is-meant c =
+pub returns-then-is_meant : goal.returns-then-is_meant
+returns-then-is_meant c =
     let e = at_drop_more (first (meant c.args.login c.args.which) c.loop-place.place) c.args.self.now.handles c.loop-place.place free_handle (search rules) in
     record { value = grind (arith, nat_tests); within = search rules }
 

@@ -9,9 +9,9 @@ use Rattle.tables.proofs.tables.Tables.keep_admitted.Goals as goal
 pub loop-slot-preserved : goal.loop-slot-preserved
 loop-slot-preserved g c =
     let admits = g.A.Access.model.admits c.args.list.now in
-    logins_more (book_of c.args.self.now) (book_of c.loop-slot.self) (book_of c.put-login.new.self) c.loop-slot.slot (kept_row admits) (row_of c.if-admitted-login.result) (search rules) c.loop-slot.invariant
-    (c.if-admitted-login.ensures ∙ ap (kept_row admits) c.login.ensures)
-    c.put-login.ensures
+    logins_more (book_of c.args.self.now) (book_of c.loop-slot.self) (book_of c.put_login.new.self) c.loop-slot.slot (kept_row admits) (row_of c.if_admitted-login.result) (search rules) c.loop-slot.invariant
+    (c.if_admitted-login.ensures ∙ ap (kept_row admits) c.login.ensures)
+    c.put_login.ensures
 
 pub returns : goal.returns
 returns g c =

@@ -5,8 +5,8 @@ use Rattle.tables.specs.Books.{book_of, with_logins}
 use Rattle.tables.proofs.Setting.{sound_set}
 use Rattle.tables.proofs.tables.Tables.put_login.Goals as goal
 
-pub invariant-of-self : goal.invariant-of-self
-invariant-of-self c =
+pub invariant_of-self : goal.invariant_of-self
+invariant_of-self c =
     ((search rules, search rules), ((search rules, search rules), (sound_set c.args.self.now.logins c.args.slot c.row.result c.args.self.now.sound c.row.ensures.sound, tt)))
 
 pub returns-else-slot-lt-LOGINS : goal.returns-else-slot-lt-LOGINS

@@ -8,9 +8,9 @@ use Rattle.tables.proofs.tables.Tables.reset_handles.Goals as goal
 pub loop-place-preserved : goal.loop-place-preserved
 loop-place-preserved g c =
     let shows = g.B.Bus.model.shows c.args.bus.now in
-    handles_more (book_of c.args.self.now) (book_of c.loop-place.self) (book_of c.put-handle.new.self) c.loop-place.place (reset_handle shows) c.found-again-handle.result (search rules) c.loop-place.invariant
-    (c.found-again-handle.ensures ∙ ap (reset_handle shows) c.handle.ensures)
-    c.put-handle.ensures
+    handles_more (book_of c.args.self.now) (book_of c.loop-place.self) (book_of c.put_handle.new.self) c.loop-place.place (reset_handle shows) c.found_again-handle.result (search rules) c.loop-place.invariant
+    (c.found_again-handle.ensures ∙ ap (reset_handle shows) c.handle.ensures)
+    c.put_handle.ensures
 
 pub returns : goal.returns
 returns g c =

@@ -11,12 +11,12 @@ use Rattle.tables.proofs.tables.Tables.reset_logins.Goals as goal
 pub loop-slot-preserved : goal.loop-slot-preserved
 loop-slot-preserved g c =
     let shows = g.B.Bus.model.shows c.args.bus.now in
-    logins_more (book_of c.args.self.now) (book_of c.loop-slot.self) (book_of c.put-login.new.self) c.loop-slot.slot (reset_row shows) (row_of c.after.result) (search rules) c.loop-slot.invariant
+    logins_more (book_of c.args.self.now) (book_of c.loop-slot.self) (book_of c.put_login.new.self) c.loop-slot.slot (reset_row shows) (row_of c.after.result) (search rules) c.loop-slot.invariant
     (
-    c.after.ensures ∙ ap (λ (o : Option NodeId). row_after (row_of c.login-login.result) (Reset o)) c.local-id-found.ensures
+    c.after.ensures ∙ ap (λ (o : Option NodeId). row_after (row_of c.login-login.result) (Reset o)) c.local_id-found.ensures
     ∙ ap (reset_row shows) c.login-login.ensures
     )
-    c.put-login.ensures
+    c.put_login.ensures
 
 pub returns : goal.returns
 returns g c =
