@@ -7,7 +7,11 @@ use Rattle.tables.proofs.tables.Tables.put_login.Goals as goal
 
 pub invariant_of-self : goal.invariant_of-self
 invariant_of-self c =
-    ((search rules, search rules), ((search rules, search rules), (sound_set c.args.self.now.logins c.args.slot c.row.result c.args.self.now.sound c.row.ensures.sound, tt)))
+    record {
+      many = (search rules, search rules);
+      turns = (search rules, search rules);
+      sound = sound_set c.args.self.now.logins c.args.slot c.row.result c.args.self.now.sound c.row.ensures.sound;
+    }
 
 pub returns-else-slot-lt-LOGINS : goal.returns-else-slot-lt-LOGINS
 returns-else-slot-lt-LOGINS c =
