@@ -10,7 +10,7 @@ ghost use Rattle.rules.specs.Scenes.{response, stored};
 ghost use Rattle.management.specs.Serving.{Serves};
 ghost use Rattle.management.specs.Parts.{snapshot_of};
 
-use crate::logins::LAST_UNIT;
+use crate::login::LAST_UNIT;
 use crate::parts::ManagementAgent;
 use access::Access;
 use bus::Bus;

@@ -2,7 +2,7 @@
 #![tactic(auto)]
 
 mod handles;
-mod logins;
+mod login;
 pub mod parts;
 pub mod requests;
 mod updates;

@@ -13,7 +13,7 @@ ghost use Rattle.rules.specs.Scenes.{response, stored};
 ghost use Rattle.management.specs.Serving.{Serves};
 ghost use Rattle.management.specs.Parts.{snapshot_of};
 
-use crate::logins::{is_rejected, own_handle};
+use crate::login::{is_rejected, own_handle};
 use crate::parts::ManagementAgent;
 use access::Access;
 use bus::Bus;

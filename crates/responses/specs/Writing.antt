@@ -3,7 +3,7 @@ use Rattle.std.specs.Prelude.{ℕ, ◌+◌, cond, List, ◌++◌, length, drop, 
 use Rattle.reader.specs.declared.refusal.Refusal.{Refusal}
 use Rattle.reader.specs.declared.refusal.Refusal.TheVariants.{ResponseArea}
 use Rattle.rules.specs.Responses.{big, agent_offset, login_stored, login_response}
-use Rattle.responses.specs.declared.logins.LoginTold.{LoginTold}
+use Rattle.responses.specs.declared.told.LoginTold.{LoginTold}
 
 -- the longest response is a query that tells 16 holders
 abbrev pub smallest_area : ℕ

@@ -3,7 +3,7 @@ ghost use Rattle.std.specs.Prelude.{◌≡◌, ◌≤◌, length};
 ghost use Rattle.rules.specs.Responses.{login_stored, handle_response};
 ghost use Rattle.responses.specs.Writing.{smallest_area, write_answer, write_area, login_told, login_bytes};
 
-use crate::logins::LoginTold;
+use crate::told::LoginTold;
 use reader::refusal::Refusal;
 
 /// Every response area has this many bytes at least: the longest response is a query that tells 16 holders.

@@ -20,7 +20,7 @@ use logins::rows::{Handle, Holders, Login, LoginEvent, LoginState, WhichHandle};
 use reader::ids::{Eui64, NodeId};
 use reader::refusal::Refusal;
 use reader::request::Request;
-use responses::logins::LoginTold;
+use responses::told::LoginTold;
 use responses::writing::write_login;
 
 pub(crate) const LAST_UNIT: u16 = 3;
