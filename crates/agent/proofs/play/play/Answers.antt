@@ -1,7 +1,6 @@
 use Rattle.std.proofs.Common.{◌+◌, List, [], ◌∷◌, take, vec_items, sym, refl, ap, subst}
 use Rattle.std.proofs.lemmas.List.{take_all}
 use Rattle.std.proofs.lemmas.Slice.{pushed}
-use Rattle.std.proofs.lemmas.Result.{err_from_is_err_and}
 use Rattle.rules.specs.Runs.{Snapshot, Step}
 use Rattle.rules.specs.declared.calls.Answer.{Answer}
 use Rattle.rules.specs.declared.calls.Call.{Call}
@@ -40,8 +39,5 @@ returns g c =
     let end = snapshot_of c.loop-call.target in
     let all = subst (λ (made : List (Call g.row.A-Note.Denot)). Plays g.B.Bus.model g.A.Access.model start made answers end) (take_all c.loop-call.call-index calls c.loop-call-test.false) c.loop-call.invariant in
     subst (λ (first : Snapshot g.row.B.Denot g.row.A.Denot). LawAbiding g.B.Bus.model g.A.Access.model first calls answers end) c.new-target.ensures (
-    abides g.B.Bus.model g.A.Access.model start calls answers end (ap (λ (x : Snapshot g.row.B.Denot g.row.A.Denot). x.book) c.new-target.ensures) c.law_holds_over_every_run.ensures all
+    abides g.B.Bus.model g.A.Access.model start calls answers end (ap (λ (x : Snapshot g.row.B.Denot g.row.A.Denot). x.book) c.new-target.ensures) c.law_holds_over_every_run.ensures.after all
     )
-
-pub returns-in_err-push : goal.returns-in_err-push
-returns-in_err-push g c = let p = err_from_is_err_and c.from-residual.result c.from-residual.ensures.1 in rw p.1 tt

@@ -12,9 +12,9 @@ returns g c =
     let x = snapshot_of c.args.target.now in
     let y = snapshot_of c.serve.new.self in
     let area = c.args.response.now in
-    let e = in_area_fits area (outcome (scene g.B.Bus.model g.A.Access.model x) c.args.source c.args.request.now) c.requires.1 in
+    let e = in_area_fits area (outcome (scene g.B.Bus.model g.A.Access.model x) c.args.source c.args.request.now) c.requires.smallest_area_in_bounds in
     record {
       served = subst (λ (o : Outcome). Serves x o c.serve.result y) e c.serve.ensures.served;
       area = c.serve.ensures.area ∙ ap (stored area) e;
-      step = c.serve.ensures.step c.requires.1;
+      step = c.serve.ensures.step c.requires.smallest_area_in_bounds;
     }
