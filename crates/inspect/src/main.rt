@@ -1,4 +1,6 @@
 // Shows the journal on standard input in words, one line for each record.
+#![tactic(auto)]
+
 use std::io::Read;
 use words::lines::journal_words;
 

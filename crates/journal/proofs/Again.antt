@@ -1,11 +1,11 @@
 -- Bytes of entries read back as these entries. Assumes nothing.
-use Rattle.std.proofs.Common.{◌≡◌, ℕ, ◌+◌, ◌<◌, ◌≤◌, Bool, true, false, cond, leb, ◌⊎◌, List, [], ◌∷◌, ◌++◌, length, take, drop, Some, None, Ok, Err, Option, Result, sym, refl, ap, ◌∙◌, inl, inr, arith}
+use Rattle.std.proofs.Common.{◌≡◌, ℕ, ◌≤◌, Bool, true, false, cond, leb, List, [], ◌∷◌, ◌++◌, length, take, drop, Some, None, Ok, Err, Option, sym, refl, ap, ◌∙◌, inl, inr, arith}
 use Rattle.std.proofs.lemmas.List.{append_assoc, append-nil, length-append, take_at}
 use Rattle.std.proofs.lemmas.Bool.{cond-true, leb-true, and_parts}
 use Rattle.reader.specs.declared.refusal.Refusal.{Refusal}
 use Rattle.reader.specs.declared.refusal.Refusal.TheVariants.{JournalTooLong}
-use Rattle.journal.specs.Entries.{Entry, entry_code, journal_code, Within, EntryAt, NoEntry}
-use Rattle.journal.specs.Journals.{AllWithin, Reads, Whole, Broken, Long, fits, written_answer, written_area, longest_journal}
+use Rattle.journal.specs.Entries.{Entry, entry_code, journal_code, NoEntry}
+use Rattle.journal.specs.Journals.{AllWithin, Reads, fits, written_answer, written_area, longest_journal}
 use Rattle.journal.specs.Reading.{entry_at}
 use Rattle.journal.specs.Trips.{ReadBack}
 use Rattle.journal.proofs.Entries.{entry_absent, entry_unique}

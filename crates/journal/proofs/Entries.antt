@@ -1,12 +1,12 @@
 -- A reader of entries finds an entry exactly where its bytes stand. Assumes that bytes are below 256.
-use Rattle.std.proofs.Common.{◌≡◌, ℕ, zero, suc, ◌+◌, ◌^◌, ◌<◌, ◌≤◌, Bool, true, false, cond, eqb, ltb, ◌⊎◌, List, [], ◌∷◌, ◌++◌, length, get_or, take, drop, Some, None, Option, sym, refl, ap, ◌∙◌, subst, inl, inr, arith}
+use Rattle.std.proofs.Common.{◌≡◌, ℕ, suc, ◌+◌, ◌^◌, ◌<◌, ◌≤◌, Bool, true, false, eqb, ltb, List, [], ◌∷◌, ◌++◌, length, get_or, take, drop, Some, None, Option, sym, refl, ap, ◌∙◌, subst, inl, inr, arith}
 use Rattle.std.proofs.lemmas.List.{append_assoc, take_at, drop_at, length-append, take-append-drop, length-take-le, get_or-append-add}
 use Rattle.std.proofs.lemmas.Bool.{cases_lt, cases_eq, eq-eqb, ne_eqb, le-ltb, lt-ltb, cond-true, cond-false}
 use Rattle.std.specs.List.{AllByRecursion as All}
 use Rattle.journal.specs.Numbers.{code}
 use Rattle.journal.specs.Entries.{Entry, request, bus_reset, net_update, gap, tick, access_change, bus_note, pair_note, stop_note, entry_code, mark, Within, EntryAt, NoEntry}
-use Rattle.journal.specs.Reading.{number_at, found, after, met, id, eui, orb_at, request_at, bus_note_at, pair_note_at, stop_note_at, Reader, readers, by_kind, entry_at}
-use Rattle.journal.proofs.Finding.{Bytes, Number, number_sound, number_complete, found_same}
+use Rattle.journal.specs.Reading.{number_at, after, met, id, eui, orb_at, request_at, bus_note_at, pair_note_at, stop_note_at, Reader, readers, by_kind, entry_at}
+use Rattle.journal.proofs.Finding.{Bytes, Number, number_sound, number_complete}
 
 -- a reader goes on behind a number that stands there
 after_code : {T : Type 0} (bits n : ℕ) (rest : List ℕ) (f : ℕ → List ℕ → Option T) → n < 2 ^ bits → after (number_at bits (code n ++ rest)) f ≡ f n rest

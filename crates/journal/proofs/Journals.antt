@@ -6,7 +6,6 @@ use Rattle.journal.specs.Journals.{AllWithin, Whole, Broken, longest_journal}
 use Rattle.journal.specs.Areas.{Wrote}
 use Rattle.journal.proofs.Writes.{wrote_then}
 use Rattle.journal.specs.declared.record.Record.{Record}
-use Rattle.reader.specs.declared.refusal.Refusal.{Refusal}
 use Rattle.reader.specs.declared.refusal.Refusal.TheVariants.{MalformedRecord}
 
 pub entry_some : (e : Entry) → 1 ≤ length (entry_code e)

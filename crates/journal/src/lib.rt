@@ -1,4 +1,6 @@
 // The journal: what happened to a cabinet, one record after another, in bytes.
+#![tactic(auto)]
+
 mod numbers;
 pub mod reading;
 pub mod record;

@@ -1,7 +1,7 @@
 -- One line after another. Assumes nothing.
-use Rattle.std.proofs.Common.{◌≡◌, ℕ, ◌+◌, ◌<◌, ◌≤◌, List, [], ◌∷◌, ◌++◌, length, get_or, drop, sym, refl, ap, ◌∙◌}
+use Rattle.std.proofs.Common.{◌≡◌, ℕ, ◌+◌, ◌<◌, ◌≤◌, List, ◌++◌, length, get_or, drop, sym, ap, ◌∙◌}
 use Rattle.std.proofs.lemmas.List.{append-nil, append_assoc, at_drop_more, at_drop_all}
-use Rattle.journal.specs.Entries.{Entry, entry, entries}
+use Rattle.journal.specs.Entries.{entry, entries}
 use Rattle.journal.specs.declared.record.Record.{Record}
 use Rattle.words.specs.Lines.{entry_text, line_text, lines_text}
 

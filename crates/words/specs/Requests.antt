@@ -1,5 +1,5 @@
 -- Requests in words. Assumes nothing.
-use Rattle.std.specs.Prelude.{ℕ, Bool, cond, List, [], ◌∷◌, ◌++◌, codes, decimal, ◌==◌}
+use Rattle.std.specs.Prelude.{ℕ, Bool, cond, List, [], ◌++◌, codes, decimal, ◌==◌}
 use Rattle.reader.specs.Requests.{hold_asked}
 use Rattle.reader.specs.Texts.{id_text, eui_text}
 use Rattle.reader.specs.declared.request.Request.{Request}

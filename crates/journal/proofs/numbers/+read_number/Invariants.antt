@@ -1,4 +1,4 @@
 use Rattle.journal.proofs.numbers.+read_number.Given as goal
 
-abbrev pub decreases-read-number : goal.decreases-read-number
-decreases-read-number l = l.bits
+abbrev pub decreases-read_number : goal.decreases-read_number
+decreases-read_number l = l.bits

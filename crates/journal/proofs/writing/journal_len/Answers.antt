@@ -7,15 +7,15 @@ use Rattle.journal.specs.declared.record.Record.{Record}
 use Rattle.journal.proofs.Journals.{total_more, within_more}
 use Rattle.journal.proofs.writing.journal_len.Goals as goal
 
-pub overflow-add-total : goal.overflow-add-total
-overflow-add-total c = omega arith
+pub overflow_add-total : goal.overflow_add-total
+overflow_add-total c = omega arith
 
 pub loop-record-preserved : goal.loop-record-preserved
 loop-record-preserved c =
     let i = c.loop-record.record-index in
     let rs = c.args.records.now in (
-      total_more rs i _ c.loop-record-test.true c.loop-record.total c.record-len-total.result c.loop-record.invariant.0 c.record-len-total.ensures.value,
-      within_more rs i _ c.loop-record-test.true c.loop-record.invariant.1 c.record-len-total.ensures.within,
+      total_more rs i _ c.loop-record-test.true c.loop-record.total c.record_len-total.result c.loop-record.invariant.0 c.record_len-total.ensures.value,
+      within_more rs i _ c.loop-record-test.true c.loop-record.invariant.1 c.record_len-total.ensures.within,
       omega arith,
     )
 

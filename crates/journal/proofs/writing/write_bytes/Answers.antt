@@ -1,4 +1,4 @@
-use Rattle.std.proofs.Common.{◌+◌, ◌≤◌, arith, rules}
+use Rattle.std.proofs.Common.{◌+◌, arith, rules}
 use borrow.Rule.Slice.PartMut.{Post-is}
 use Rattle.journal.proofs.writing.write_bytes.Goals as goal
 

@@ -7,15 +7,15 @@ use Rattle.journal.specs.declared.record.Record.{Record}
 use Rattle.journal.proofs.Journals.{room_left, wrote_more}
 use Rattle.journal.proofs.writing.write_records.Goals as goal
 
-pub write-record-at-requires : goal.write-record-at-requires
-write-record-at-requires c =
+pub write_record-at-requires : goal.write_record-at-requires
+write_record-at-requires c =
     let same = c.loop-record.auto.area in
     let room : length (journal_code (entries c.args.records.now)) ≤ length c.loop-record.area = omega arith in
     room_left c.args.records.now c.loop-record.record-index _ c.loop-record-test.true c.loop-record.at (length c.loop-record.area) c.loop-record.invariant.ends room
 
 pub loop-record-preserved : goal.loop-record-preserved
 loop-record-preserved c =
-    wrote_more c.args.records.now c.loop-record.record-index _ c.loop-record-test.true c.args.area.now c.loop-record.area c.write-record-at.new.area c.loop-record.at c.write-record-at.result c.requires c.loop-record.invariant c.write-record-at.ensures
+    wrote_more c.args.records.now c.loop-record.record-index _ c.loop-record-test.true c.args.area.now c.loop-record.area c.write_record-at.new.area c.loop-record.at c.write_record-at.result c.requires c.loop-record.invariant c.write_record-at.ensures
 
 pub returns : goal.returns
 returns c =

@@ -1,5 +1,5 @@
 -- The records so far stand at the front.
-use Rattle.std.proofs.Common.{◌≡◌, take}
+use Rattle.std.proofs.Common.{take}
 use Rattle.journal.specs.Areas.{Wrote}
 use Rattle.journal.specs.Entries.{entries, journal_code}
 use Rattle.journal.proofs.writing.write_records.Given as goal

@@ -8,18 +8,18 @@ use Rattle.words.proofs.lines.journal_words.Goals as goal
 
 pub returns : goal.returns
 returns c =
-    let rs = vec_items c.in-ok-journal.journal.records in
-    let why = c.in-ok-journal.journal.refusal in
-    let grown = pushed c.as-str.result.now refl c.in-ok-push-str.was c.push-str.ensures.bytes in
-    let told : string_bytes c.in-ok-text.text ≡ lines_text 1 (entries rs) =
-    c.in-ok-text.ensures ∙ ap (λ (z : List Record). lines_text 1 (entries z)) c.as-slice.ensures.value in
+    let rs = vec_items c.in_ok-journal.journal.records in
+    let why = c.in_ok-journal.journal.refusal in
+    let grown = pushed c.as_str.result.now refl c.in_ok-push_str.was c.push_str.ensures.bytes in
+    let told : string_bytes c.in_ok-text.text ≡ lines_text 1 (entries rs) =
+    c.in_ok-text.ensures ∙ ap (λ (z : List Record). lines_text 1 (entries z)) c.as_slice.ensures.value in
     let count : c.len.result ≡ length (entries rs) =
-    c.len.ensures ∙ c.in-ok-journal.journal.records.ok.0 ∙ sym (length-map rs entry) in
-    let ended : c.as-str.result.now ≡ end_text (length (entries rs)) why =
-    c.as-str.ensures.value ∙ c.in-ok-end.ensures ∙ ap (λ (n : ℕ). end_text n why) count in
+    c.len.ensures ∙ c.in_ok-journal.journal.records.ok.0 ∙ sym (length-map rs entry) in
+    let ended : c.as_str.result.now ≡ end_text (length (entries rs)) why =
+    c.as_str.ensures.value ∙ c.in_ok-end.ensures ∙ ap (λ (n : ℕ). end_text n why) count in
     record {
       read = entries rs;
       refusal = why;
-      reads = c.in-ok-journal.ensures;
-      words = grown ∙ ap (λ (z : List ℕ). z ++ c.as-str.result.now) told ∙ ap (λ (z : List ℕ). lines_text 1 (entries rs) ++ z) ended;
+      reads = c.in_ok-journal.ensures;
+      words = grown ∙ ap (λ (z : List ℕ). z ++ c.as_str.result.now) told ∙ ap (λ (z : List ℕ). lines_text 1 (entries rs) ++ z) ended;
     }

@@ -7,4 +7,4 @@ use Rattle.words.proofs.lines.record_words.Goals as goal
 
 pub returns-in-AccessChange : goal.returns-in-AccessChange
 returns-in-AccessChange c =
-    IfOk-weaker c.from-str-in-AccessChange.result _ _ (λ s e. e ∙ sym (ap (λ (r : Record). entry_text (entry r)) c.in-AccessChange.is)) c.from-str-in-AccessChange.ensures.ok
+    IfOk-weaker c.from_str-in-AccessChange.result _ _ (λ s e. e ∙ sym (ap (λ (r : Record). entry_text (entry r)) c.in-AccessChange.is)) c.from_str-in-AccessChange.ensures.ok
