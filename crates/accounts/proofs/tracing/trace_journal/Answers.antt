@@ -16,12 +16,12 @@ returns c =
     let ran = c.in_ok-text.ensures in
     let grown = pushed c.as_str.result.now refl c.in_ok-push_str.was c.push_str.ensures.bytes in
     let told : string_bytes c.in_ok-text.text ≡ told_all after_entry record_trace 1 new_cabinet (entries rs) =
-    ran.0 ∙ ap (λ (z : Cabinet). told_all after_entry record_trace 1 z (entries c.as_slice.result.now)) c.new_cabinet.ensures
+    ran.0 ∙ ap (λ (z : Cabinet). told_all after_entry record_trace 1 z (entries c.as_slice.result.now)) c.new-cabinet.ensures
     ∙ ap (λ (z : List Record). told_all after_entry record_trace 1 new_cabinet (entries z)) c.as_slice.ensures.value in
     let book : book_of c.tables.result.now ≡ (after_all after_entry new_cabinet (entries rs)).book =
     c.tables.ensures
     ∙ ap (λ (z : Cabinet). z.book) (
-    ran.1 ∙ ap (λ (z : Cabinet). after_all after_entry z (entries c.as_slice.result.now)) c.new_cabinet.ensures
+    ran.1 ∙ ap (λ (z : Cabinet). after_all after_entry z (entries c.as_slice.result.now)) c.new-cabinet.ensures
     ∙ ap (λ (z : List Record). after_all after_entry new_cabinet (entries z)) c.as_slice.ensures.value
     ) in
     let count : c.len.result ≡ length (entries rs) =

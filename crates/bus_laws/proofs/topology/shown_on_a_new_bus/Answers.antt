@@ -6,5 +6,5 @@ use Rattle.bus_laws.proofs.topology.shown_on_a_new_bus.Goals as goal
 
 pub returns : goal.returns
 returns c =
-    let below = ap local_tables c.new_bus.ensures.below ∙ c.new.ensures in
-    shown_first c.new_bus.result c.shown_after_reset.new.bus c.new_bus.ensures.tables below c.shown_after_reset.ensures
+    let below = ap local_tables c.new-bus.ensures.below ∙ c.new.ensures in
+    shown_first c.new-bus.result c.shown_after_reset.new.bus c.new-bus.ensures.tables below c.shown_after_reset.ensures
