@@ -1,5 +1,5 @@
 -- Which node IDs are local, broadcast, global or none. Assumes nothing.
-use Rattle.std.specs.Prelude.{ℕ, ◌%◌, Bool, not, ◌&&◌, ◌==◌, nat_le, nat_lt}
+use Rattle.std.specs.Prelude.{◌%◌, Bool, not, ◌&&◌, ◌==◌, nat_le, nat_lt}
 use Rattle.reader.specs.declared.ids.NodeId.{NodeId}
 use Rattle.reader.specs.declared.ids.Eui64.{Eui64}
 

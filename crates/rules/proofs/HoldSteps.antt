@@ -1,5 +1,5 @@
 -- What one call makes of a reserved login. Assumes that the bus is lawful.
-use Rattle.std.proofs.Common.{◌≡◌, ℕ, ◌+◌, ◌-◌, Bool, true, false, cond, ◌||◌, sym, refl, ap, ◌∙◌, subst, arith}
+use Rattle.std.proofs.Common.{◌≡◌, ℕ, ◌+◌, Bool, true, false, cond, ◌||◌, sym, refl, ap, ◌∙◌, subst, arith}
 use Rattle.bus.specs.Meaning.{BusModel, Lawful}
 use Rattle.access.specs.Meaning.{AccessModel}
 use Rattle.reader.specs.declared.ids.NodeId.{NodeId}

@@ -1,5 +1,5 @@
 -- What a reset, a net update, a tick and an access change make of a reserved login. Assumes nothing.
-use Rattle.std.proofs.Common.{◌≡◌, ℕ, ◌+◌, ◌-◌, Bool, true, false, cond, not, ◌&&◌, ltb, leb, Some, None, Option, sym, refl, ap, ◌∙◌, arith}
+use Rattle.std.proofs.Common.{◌≡◌, ℕ, ◌+◌, Bool, true, false, cond, not, ◌&&◌, ltb, leb, Some, None, Option, sym, refl, ap, ◌∙◌, arith}
 use Rattle.std.proofs.lemmas.Bool.{both_ways, and_parts, and_right, ltb-true, ne_eqb}
 use Rattle.reader.specs.Ids.{none_id, none_eui, local}
 use Rattle.reader.specs.declared.ids.NodeId.{NodeId}

@@ -1,5 +1,5 @@
 -- The search for a free place, step by step. Assumes nothing.
-use Rattle.std.proofs.Common.{◌≡◌, ℕ, zero, suc, ◌+◌, Bool, true, false, cond, Some, None, Option, refl, ap, ◌∙◌, add-one, arith}
+use Rattle.std.proofs.Common.{◌≡◌, ℕ, zero, suc, ◌+◌, Bool, true, false, cond, Some, None, refl, ap, ◌∙◌, add-one, arith}
 use Rattle.tables.specs.Searches.{next_free, after_place}
 
 module _ (taken : ℕ → Bool) (size i : ℕ) where

@@ -1,7 +1,7 @@
 -- Writing one row of a list. Assumes nothing.
-use Rattle.std.proofs.Common.{◌≡◌, ℕ, zero, suc, ◌<◌, ◌≤◌, true, false, ◌⊎◌, List, [], ◌∷◌, length, get_or, set, sym, refl, ap, ◌∙◌, inl, inr}
+use Rattle.std.proofs.Common.{◌≡◌, ℕ, zero, suc, true, ◌⊎◌, List, [], ◌∷◌, get_or, set, refl, ap, ◌∙◌, inl, inr}
 use Rattle.logins.specs.Logins.{sound, free_row}
-use Rattle.logins.specs.Rows.{row_at, SoundRows}
+use Rattle.logins.specs.Rows.{SoundRows}
 use Rattle.logins.specs.declared.rows.LoginRow.{LoginRow}
 
 -- what a place holds after a write: what was written there, or what it held

@@ -1,5 +1,5 @@
 -- What a place given, a login ended, a reset, a net update, a gap and a tick make of the tables. Assumes nothing.
-use Rattle.std.specs.Prelude.{ℕ, ◌-◌, Bool, true, false, cond, not, ◌&&◌, List, map, Option, ◌==◌, nat_le, nat_lt, slice_set}
+use Rattle.std.specs.Prelude.{ℕ, ◌-◌, Bool, false, cond, not, ◌&&◌, List, map, Option, ◌==◌, nat_le, nat_lt, slice_set}
 use Rattle.std.specs.Option.{unwrap_or}
 use Rattle.reader.specs.declared.ids.NodeId.{NodeId}
 use Rattle.reader.specs.declared.ids.Eui64.{Eui64}
@@ -10,7 +10,7 @@ use Rattle.logins.specs.declared.rows.Handle.{Handle}
 use Rattle.logins.specs.declared.rows.HandleSweep.{HandleSweep}
 use Rattle.logins.specs.declared.rows.HandleSweep.TheVariants.{Orphans, AllOf, OthersOf, NetUpdated}
 use Rattle.logins.specs.declared.rows.LoginEvent.{LoginEvent}
-use Rattle.logins.specs.declared.rows.LoginEvent.TheVariants.{Reset, NetUpdate, Tick, Reconnect}
+use Rattle.logins.specs.declared.rows.LoginEvent.TheVariants.{Reset, NetUpdate, Tick}
 use Rattle.logins.specs.declared.rows.LoginRow.{LoginRow}
 use Rattle.tables.specs.Books.{Book, with_logins, with_handles, put_login, put_handle}
 use Rattle.tables.specs.Searches.{after_place}

@@ -1,4 +1,4 @@
-use Rattle.std.proofs.Common.{◌≡◌, List, ap, ◌∙◌, rules}
+use Rattle.std.proofs.Common.{List, ap, ◌∙◌, rules}
 use Rattle.logins.specs.Logins.{row_of}
 use Rattle.logins.specs.declared.rows.LoginRow.{LoginRow}
 use Rattle.tables.specs.Books.{book_of, with_logins}

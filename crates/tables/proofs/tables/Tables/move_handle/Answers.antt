@@ -1,4 +1,4 @@
-use Rattle.std.proofs.Common.{◌≡◌, List, set, sym, ap, rules}
+use Rattle.std.proofs.Common.{List, set, sym, ap, rules}
 use Rattle.std.proofs.lemmas.List.{set_past, get_or_default}
 use Rattle.logins.specs.Rows.{free_handle}
 use Rattle.logins.specs.declared.rows.Handle.{Handle}

@@ -1,4 +1,4 @@
-use Rattle.std.proofs.Common.{◌≡◌, List, ap, ◌∙◌, rules}
+use Rattle.std.proofs.Common.{List, ap, ◌∙◌, rules}
 use Rattle.logins.specs.declared.rows.Handle.{Handle}
 use Rattle.tables.specs.Books.{book_of, with_handles}
 use Rattle.tables.specs.Events.{reset_handle}

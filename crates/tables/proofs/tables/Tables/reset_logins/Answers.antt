@@ -1,4 +1,4 @@
-use Rattle.std.proofs.Common.{◌≡◌, List, Option, ap, ◌∙◌, rules}
+use Rattle.std.proofs.Common.{List, Option, ap, ◌∙◌, rules}
 use Rattle.tables.specs.Books.{book_of, with_logins}
 use Rattle.tables.specs.Events.{reset_row}
 use Rattle.reader.specs.declared.ids.NodeId.{NodeId}

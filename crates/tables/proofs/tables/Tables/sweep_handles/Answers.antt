@@ -1,4 +1,4 @@
-use Rattle.std.proofs.Common.{◌≡◌, List, ap, ◌∙◌, rules}
+use Rattle.std.proofs.Common.{List, ap, ◌∙◌, rules}
 use Rattle.logins.specs.Rows.{handle_at}
 use Rattle.logins.specs.declared.rows.Handle.{Handle}
 use Rattle.tables.specs.Books.{Book, book_of, with_handles}
