@@ -1,11 +1,10 @@
 -- The worked examples: stations A and B at a cabinet, both admitted to unit 1. Assumes nothing.
-use Rattle.std.specs.Prelude.{◌≡◌, ℕ, zero, suc, Bool, true, false, cond, ◌&&◌, ◌||◌, List, [], ◌∷◌, ◌++◌, drop, replicate, Some, None, Option, ◌==◌}
+use Rattle.std.specs.Prelude.{◌≡◌, ℕ, zero, suc, Bool, true, false, cond, ◌&&◌, ◌||◌, [], ◌∷◌, ◌++◌, drop, replicate, Some, None, Option, ◌==◌}
 use Rattle.reader.specs.Blocks.{block}
 use Rattle.reader.specs.Refusals.{number}
 use Rattle.reader.specs.Requests.{request_in}
 use Rattle.reader.specs.declared.ids.NodeId.{NodeId}
 use Rattle.reader.specs.declared.ids.Eui64.{Eui64}
-use Rattle.reader.specs.declared.refusal.Refusal.{Refusal}
 use Rattle.reader.specs.declared.refusal.Refusal.TheVariants.{AccessDenied, LogicalUnitNotSupported, FunctionRejected, Unspecified}
 use Rattle.reader.specs.declared.request.Request.{Request}
 use Rattle.logins.specs.Logins.{holder, reserved}
@@ -15,7 +14,6 @@ use Rattle.tables.specs.Events.{was_reset, ticking_so, tick_counted}
 use Rattle.rules.specs.Responses.{big}
 use Rattle.rules.specs.Scenes.{Scene, Outcome, answer_of, book_after, response}
 use Rattle.rules.specs.Serving.{outcome}
-use Rattle.rules.specs.declared.calls.Answer.{Answer}
 use Rattle.rules.specs.declared.calls.Answer.TheVariants.{Granted, Refused}
 use Rattle.journal.specs.Numbers.{code}
 use Rattle.journal.specs.Entries.{NoEntry}

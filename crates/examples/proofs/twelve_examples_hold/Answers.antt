@@ -5,7 +5,6 @@ use Rattle.journal.specs.Numbers.{code}
 use Rattle.journal.specs.Reading.{number_at, entry_at}
 use Rattle.journal.proofs.Entries.{entry_absent}
 use Rattle.tables.specs.Searches.{next_free}
-use Rattle.examples.specs.Examples.{Examples}
 use Rattle.examples.proofs.twelve_examples_hold.Goals as goal
 
 pub returns : goal.returns
