@@ -10,6 +10,7 @@ ghost use Rattle.rules.specs.Scenes.{response, stored};
 ghost use Rattle.management.specs.Serving.{Serves};
 ghost use Rattle.management.specs.Parts.{snapshot_of};
 
+use crate::asking::LoginSlot;
 use crate::login::LAST_UNIT;
 use crate::parts::ManagementAgent;
 use access::Access;
@@ -19,7 +20,7 @@ use reader::ids::NodeId;
 use reader::refusal::Refusal;
 use reader::request::Request;
 use responses::queries::write_query;
-use responses::writing::write_handle;
+use responses::writing::{SMALLEST_AREA, write_handle};
 
 // All handles of a login but its own, in a release.
 const ALL_OTHERS: u16 = 0xFFFF;
@@ -37,8 +38,11 @@ fn other_handle(request: &Request) -> Handle
 }
 
 impl<B: Bus, A: Access> ManagementAgent<B, A> {
-    pub(crate) fn query(&self, request: &Request, response: &mut [u8]) -> Result<usize, Refusal>
-        requires { smallest_area ≤ length response.old }
+    pub(crate) fn query(
+        &self,
+        request: &Request,
+        response: &mut [u8; SMALLEST_AREA],
+    ) -> Result<usize, Refusal>
         ensures served { Serves (snapshot_of self.now) (query_outcome (scene B.Bus.model A.Access.model (snapshot_of self.now)) request.now) result (snapshot_of self.now) }
         ensures area { response.new ≡ stored response.old (query_outcome (scene B.Bus.model A.Access.model (snapshot_of self.now)) request.now) }
     {
@@ -56,14 +60,14 @@ impl<B: Bus, A: Access> ManagementAgent<B, A> {
     fn is_shown_there(&self, request: &Request) -> bool
         ensures { result ≡ shown_there (scene B.Bus.model A.Access.model (snapshot_of self.now)) request.now }
     {
-        match self.bus.who(NodeId(request.node_or_handle)) {
-            Some(eui) => eui == request.eui_64,
-            None => false,
-        }
+        self.bus.who(NodeId(request.node_or_handle)) == Some(request.eui_64)
     }
 
-    fn allocate(&mut self, request: &Request, response: &mut [u8]) -> Result<usize, Refusal>
-        requires { smallest_area ≤ length response.old }
+    fn allocate(
+        &mut self,
+        request: &Request,
+        response: &mut [u8; SMALLEST_AREA],
+    ) -> Result<usize, Refusal>
         ensures served { Serves (snapshot_of self.old) (allocate (scene B.Bus.model A.Access.model (snapshot_of self.old)) request.now) result (snapshot_of self.new) }
         ensures area { response.new ≡ stored response.old (allocate (scene B.Bus.model A.Access.model (snapshot_of self.old)) request.now) }
     {
@@ -83,15 +87,15 @@ impl<B: Bus, A: Access> ManagementAgent<B, A> {
         Ok(stored)
     }
 
-    fn allocate_new(&mut self, request: &Request, response: &mut [u8]) -> Result<usize, Refusal>
-        requires { smallest_area ≤ length response.old }
+    fn allocate_new(
+        &mut self,
+        request: &Request,
+        response: &mut [u8; SMALLEST_AREA],
+    ) -> Result<usize, Refusal>
         ensures served { Serves (snapshot_of self.old) (allocate_new (scene B.Bus.model A.Access.model (snapshot_of self.old)) request.now (free_handle_place (snapshot_of self.old).book)) result (snapshot_of self.new) }
         ensures area { response.new ≡ stored response.old (allocate_new (scene B.Bus.model A.Access.model (snapshot_of self.old)) request.now (free_handle_place (snapshot_of self.old).book)) }
     {
-        let Some(place) = self.tables.free_handle() else {
-            let in_use = self.tables.count_handles();
-            return Err(Refusal::ResourcesUnavailable(in_use));
-        };
+        let place = self.handle_place()?;
         let stored = tell_handle(place as u16 + 1, response);
         self.tables.give_handle(place, other_handle(request));
         Ok(stored)
@@ -127,15 +131,12 @@ impl<B: Bus, A: Access> ManagementAgent<B, A> {
         &mut self,
         source: NodeId,
         request: &Request,
-        response: &mut [u8],
+        response: &mut [u8; SMALLEST_AREA],
     ) -> Result<usize, Refusal>
-        requires { smallest_area ≤ length response.old }
         ensures served { Serves (snapshot_of self.old) (handle_outcome (scene B.Bus.model A.Access.model (snapshot_of self.old)) source request.now) result (snapshot_of self.new) }
         ensures area { response.new ≡ stored response.old (handle_outcome (scene B.Bus.model A.Access.model (snapshot_of self.old)) source request.now) }
     {
-        let Some(slot) = self.own_login(source, request.unit_or_login_id) else {
-            return Err(Refusal::LoginIdNotRecognized);
-        };
+        let LoginSlot { slot } = self.own_login(source, request.unit_or_login_id)?;
         if !self.tables.login(slot).aware {
             return Err(Refusal::FunctionRejected);
         }
@@ -148,8 +149,7 @@ impl<B: Bus, A: Access> ManagementAgent<B, A> {
 }
 
 // Tells the handle that was given, and gives the number of bytes.
-fn tell_handle(number: u16, response: &mut [u8]) -> usize
-    requires { smallest_area ≤ length response.old }
+fn tell_handle(number: u16, response: &mut [u8; SMALLEST_AREA]) -> usize
     ensures value { result ≡ length (handle_response number) }
     ensures after { response.new ≡ handle_response number ++ drop result response.old }
 {

@@ -1,18 +1,19 @@
 // LOGIN, RECONNECT and LOGOUT.
-ghost use Rattle.std.specs.Prelude.{◌≡◌, ◌<◌, ◌≤◌, true, false, [], ◌++◌, length, drop, IfSome};
-ghost use Rattle.reader.specs.Ids.{none_eui};
+ghost use Rattle.std.specs.Prelude.{◌≡◌, ◌<◌, ◌≤◌, [], ◌++◌, length, drop, Some, None, MatchResult};
+ghost use Rattle.reader.specs.declared.refusal.Refusal.TheVariants.{ResourcesUnavailable, LoginIdNotRecognized};
 ghost use Rattle.logins.specs.Logins.{row_of};
-ghost use Rattle.logins.specs.Rows.{logins_size};
+ghost use Rattle.logins.specs.Rows.{handles_size};
 ghost use Rattle.logins.specs.declared.rows.WhichHandle.TheVariants.{Own};
-ghost use Rattle.tables.specs.Searches.{free_handle_place};
+ghost use Rattle.tables.specs.Searches.{free_login, free_handle_place};
 ghost use Rattle.responses.specs.Writing.{smallest_area};
 ghost use Rattle.rules.specs.Responses.{login_response};
-ghost use Rattle.rules.specs.Logins.{hold_of, own_handle, login_at, login_outcome, rejected, denied, new_row, reconnect_outcome, logout_outcome};
+ghost use Rattle.rules.specs.Logins.{logins_in_use, handles_in_use, hold_of, own_handle, login_at, login_outcome, rejected, denied, new_row, reconnect_outcome, logout_outcome};
 ghost use Rattle.rules.specs.Runs.{scene};
 ghost use Rattle.rules.specs.Scenes.{own_login, response, stored};
 ghost use Rattle.management.specs.Serving.{Serves};
 ghost use Rattle.management.specs.Parts.{snapshot_of};
 
+use crate::asking::{Initiator, LoginSlot};
 use crate::parts::ManagementAgent;
 use access::Access;
 use bus::Bus;
@@ -21,7 +22,7 @@ use reader::ids::{Eui64, NodeId};
 use reader::refusal::Refusal;
 use reader::request::Request;
 use responses::told::LoginTold;
-use responses::writing::write_login;
+use responses::writing::{SMALLEST_AREA, write_login};
 
 pub(crate) const LAST_UNIT: u16 = 3;
 
@@ -47,14 +48,13 @@ pub(crate) fn own_handle(id: u16, eui: Eui64, node: NodeId) -> Handle
 }
 
 // The login that is granted.
-fn new_login(source: NodeId, eui: Eui64, request: &Request) -> Login
-    requires { none_eui eui ≡ false }
-    ensures { row_of result ≡ new_row source eui request.now }
+fn new_login(from: Initiator, request: &Request) -> Login
+    ensures { row_of result ≡ new_row from.node from.eui_64 request.now }
 {
     Login {
         unit: request.unit_or_login_id,
-        owner_id: source,
-        owner_eui_64: eui,
+        owner_id: from.node,
+        owner_eui_64: from.eui_64,
         status_fifo: request.status_fifo,
         exclusive: request.exclusive_or_allocate,
         aware: request.aware,
@@ -77,37 +77,54 @@ impl<B: Bus, A: Access> ManagementAgent<B, A> {
     }
 
     // The slot of the own active login: active, with the source ID as owner ID.
-    pub(crate) fn own_login(&self, source: NodeId, id: u16) -> Option<usize>
-        ensures value { result ≡ own_login (snapshot_of self.now).book source id }
-        ensures within { IfSome result (λ k. k < logins_size) }
+    pub(crate) fn own_login(&self, source: NodeId, id: u16) -> Result<LoginSlot, Refusal>
+        ensures { MatchResult result (λ s. own_login (snapshot_of self.now).book source id ≡ Some s.slot) (λ e. (own_login (snapshot_of self.now).book source id ≡ None) × (e ≡ LoginIdNotRecognized)) }
     {
         if id < 1 {
-            return None;
+            return Err(Refusal::LoginIdNotRecognized);
         }
         let slot = usize::from(id) - 1;
         let login = self.tables.login(slot);
         match login.state() {
-            LoginState::Active if login.owner_id == source => Some(slot),
-            _ => None,
+            LoginState::Active if login.owner_id == source => Ok(LoginSlot { slot }),
+            _ => Err(Refusal::LoginIdNotRecognized),
         }
     }
 
-    // Tells what a login or an update granted, and gives the number of bytes.
+    // A free place for a handle, if there is one.
+    pub(crate) fn handle_place(&self) -> Result<usize, Refusal>
+        ensures { MatchResult result (λ k. (free_handle_place (snapshot_of self.now).book ≡ Some k) × (k < handles_size)) (λ e. (free_handle_place (snapshot_of self.now).book ≡ None) × (e ≡ ResourcesUnavailable (handles_in_use (snapshot_of self.now).book))) }
+    {
+        match self.tables.free_handle() {
+            Some(place) => Ok(place),
+            None => Err(Refusal::ResourcesUnavailable(self.tables.count_handles())),
+        }
+    }
+
+    // A free slot for a login, if there is one.
+    fn free_slot(&self) -> Result<LoginSlot, Refusal>
+        ensures { MatchResult result (λ s. free_login (snapshot_of self.now).book ≡ Some s.slot) (λ e. (free_login (snapshot_of self.now).book ≡ None) × (e ≡ ResourcesUnavailable (logins_in_use (snapshot_of self.now).book))) }
+    {
+        match self.tables.free_login() {
+            Some(slot) => Ok(LoginSlot { slot }),
+            None => Err(Refusal::ResourcesUnavailable(self.tables.count_holders(Holders::All))),
+        }
+    }
+
+    // Tells what a login or an update granted, and gives the number of bytes. In a response 0 is no handle.
     pub(crate) fn tell_login(
         &self,
-        slot: usize,
+        at: LoginSlot,
         handle: u16,
         request: &Request,
-        response: &mut [u8],
+        response: &mut [u8; SMALLEST_AREA],
     ) -> usize
-        requires smallest_area_in_bounds { smallest_area ≤ length response.old }
-        requires slot_lt_logins_size { slot < logins_size }
-        ensures value { result ≡ length (login_response (B.Bus.model.own self.now.bus) slot handle (hold_of request.now) request.now.response_length) }
-        ensures after { response.new ≡ login_response (B.Bus.model.own self.now.bus) slot handle (hold_of request.now) request.now.response_length ++ drop result response.old }
+        ensures value { result ≡ length (login_response (B.Bus.model.own self.now.bus) at.slot handle (hold_of request.now) request.now.response_length) }
+        ensures after { response.new ≡ login_response (B.Bus.model.own self.now.bus) at.slot handle (hold_of request.now) request.now.response_length ++ drop result response.old }
     {
         let told = LoginTold {
             own: self.bus.own_id(),
-            slot: slot as u16,
+            slot: at.slot as u16,
             handle,
             hold: request.hold(),
             room: request.response_length,
@@ -117,63 +134,49 @@ impl<B: Bus, A: Access> ManagementAgent<B, A> {
 
     pub(crate) fn login(
         &mut self,
-        source: NodeId,
-        eui: Eui64,
+        from: Initiator,
         request: &Request,
-        response: &mut [u8],
+        response: &mut [u8; SMALLEST_AREA],
     ) -> Result<usize, Refusal>
-        requires smallest_area_in_bounds { smallest_area ≤ length response.old }
-        requires eui_value { none_eui eui ≡ false }
-        ensures served { Serves (snapshot_of self.old) (login_outcome (scene B.Bus.model A.Access.model (snapshot_of self.old)) source eui request.now) result (snapshot_of self.new) }
-        ensures area { response.new ≡ stored response.old (login_outcome (scene B.Bus.model A.Access.model (snapshot_of self.old)) source eui request.now) }
+        ensures served { Serves (snapshot_of self.old) (login_outcome (scene B.Bus.model A.Access.model (snapshot_of self.old)) from.node from.eui_64 request.now) result (snapshot_of self.new) }
+        ensures area { response.new ≡ stored response.old (login_outcome (scene B.Bus.model A.Access.model (snapshot_of self.old)) from.node from.eui_64 request.now) }
     {
         let unit = request.unit_or_login_id;
         if unit > LAST_UNIT {
             return Err(Refusal::LogicalUnitNotSupported);
         }
-        if is_rejected(source, request) {
+        if is_rejected(from.node, request) {
             return Err(Refusal::FunctionRejected);
         }
-        if self.is_denied(eui, request) {
+        if self.is_denied(from.eui_64, request) {
             return Err(Refusal::AccessDenied(unit));
         }
-        let Some(slot) = self.tables.free_login() else {
-            let in_use = self.tables.count_holders(Holders::All);
-            return Err(Refusal::ResourcesUnavailable(in_use));
-        };
+        let at = self.free_slot()?;
         if request.aware {
-            return self.aware_login(slot, source, eui, request, response);
+            return self.aware_login(at, from, request, response);
         }
-        let stored = self.tell_login(slot, 0, request, response);
-        let granted = new_login(source, eui, request);
-        self.tables.give_login(slot, granted);
+        let stored = self.tell_login(at, 0, request, response);
+        let granted = new_login(from, request);
+        self.tables.give_login(at.slot, granted);
         Ok(stored)
     }
 
     // An aware login brings an own handle, if there is a place for it.
     fn aware_login(
         &mut self,
-        slot: usize,
-        source: NodeId,
-        eui: Eui64,
+        at: LoginSlot,
+        from: Initiator,
         request: &Request,
-        response: &mut [u8],
+        response: &mut [u8; SMALLEST_AREA],
     ) -> Result<usize, Refusal>
-        requires smallest_area_in_bounds { smallest_area ≤ length response.old }
-        requires eui_value { none_eui eui ≡ false }
-        requires slot_lt_logins_size { slot < logins_size }
-        ensures served { Serves (snapshot_of self.old) (login_at (scene B.Bus.model A.Access.model (snapshot_of self.old)) source eui request.now slot (free_handle_place (snapshot_of self.old).book)) result (snapshot_of self.new) }
-        ensures area { response.new ≡ stored response.old (login_at (scene B.Bus.model A.Access.model (snapshot_of self.old)) source eui request.now slot (free_handle_place (snapshot_of self.old).book)) }
+        ensures served { Serves (snapshot_of self.old) (login_at (scene B.Bus.model A.Access.model (snapshot_of self.old)) from.node from.eui_64 request.now at.slot (free_handle_place (snapshot_of self.old).book)) result (snapshot_of self.new) }
+        ensures area { response.new ≡ stored response.old (login_at (scene B.Bus.model A.Access.model (snapshot_of self.old)) from.node from.eui_64 request.now at.slot (free_handle_place (snapshot_of self.old).book)) }
     {
-        let Some(place) = self.tables.free_handle() else {
-            let in_use = self.tables.count_handles();
-            return Err(Refusal::ResourcesUnavailable(in_use));
-        };
-        let stored = self.tell_login(slot, place as u16 + 1, request, response);
+        let place = self.handle_place()?;
+        let stored = self.tell_login(at, place as u16 + 1, request, response);
+        self.tables.give_login(at.slot, new_login(from, request));
         self.tables
-            .give_login(slot, new_login(source, eui, request));
-        self.tables
-            .give_handle(place, own_handle(slot as u16 + 1, eui, source));
+            .give_handle(place, own_handle(at.login_id(), from.eui_64, from.node));
         Ok(stored)
     }
 
@@ -181,21 +184,14 @@ impl<B: Bus, A: Access> ManagementAgent<B, A> {
         ensures served { Serves (snapshot_of self.old) (logout_outcome (scene B.Bus.model A.Access.model (snapshot_of self.old)) source request.now) result (snapshot_of self.new) }
         ensures silent { response (logout_outcome (scene B.Bus.model A.Access.model (snapshot_of self.old)) source request.now) ≡ [] }
     {
-        let Some(slot) = self.own_login(source, request.unit_or_login_id) else {
-            return Err(Refusal::LoginIdNotRecognized);
-        };
+        let LoginSlot { slot } = self.own_login(source, request.unit_or_login_id)?;
         self.tables.end_login(slot);
         Ok(0)
     }
 
-    pub(crate) fn reconnect(
-        &mut self,
-        source: NodeId,
-        eui: Eui64,
-        request: &Request,
-    ) -> Result<usize, Refusal>
-        ensures served { Serves (snapshot_of self.old) (reconnect_outcome (scene B.Bus.model A.Access.model (snapshot_of self.old)) source eui request.now) result (snapshot_of self.new) }
-        ensures silent { response (reconnect_outcome (scene B.Bus.model A.Access.model (snapshot_of self.old)) source eui request.now) ≡ [] }
+    pub(crate) fn reconnect(&mut self, from: Initiator, request: &Request) -> Result<usize, Refusal>
+        ensures served { Serves (snapshot_of self.old) (reconnect_outcome (scene B.Bus.model A.Access.model (snapshot_of self.old)) from.node from.eui_64 request.now) result (snapshot_of self.new) }
+        ensures silent { response (reconnect_outcome (scene B.Bus.model A.Access.model (snapshot_of self.old)) from.node from.eui_64 request.now) ≡ [] }
     {
         let id = request.unit_or_login_id;
         if id < 1 {
@@ -203,14 +199,14 @@ impl<B: Bus, A: Access> ManagementAgent<B, A> {
         }
         let slot = usize::from(id) - 1;
         let login = self.tables.login(slot);
-        if !login.is_holder() || login.owner_eui_64 != eui {
+        if !login.is_holder() || login.owner_eui_64 != from.eui_64 {
             return Err(Refusal::LoginIdNotRecognized);
         }
         let own = self.tables.find_handle(id, WhichHandle::Own);
         self.tables
-            .put_login(slot, login.after(LoginEvent::Reconnect(source)));
+            .put_login(slot, login.after(LoginEvent::Reconnect(from.node)));
         if let Some(place) = own {
-            self.tables.move_handle(place, source);
+            self.tables.move_handle(place, from.node);
         }
         Ok(0)
     }

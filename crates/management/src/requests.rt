@@ -1,6 +1,5 @@
 // Every request, from the test of the response area on.
-ghost use Rattle.std.specs.Prelude.{◌≡◌, ◌≤◌, false, length};
-ghost use Rattle.reader.specs.Ids.{none_eui};
+ghost use Rattle.std.specs.Prelude.{◌≡◌, ◌≤◌, length};
 ghost use Rattle.responses.specs.Writing.{smallest_area};
 ghost use Rattle.rules.specs.Runs.{Step, scene};
 ghost use Rattle.rules.specs.Scenes.{stored};
@@ -9,10 +8,11 @@ ghost use Rattle.rules.specs.declared.calls.Call.TheVariants.{Request as Asked};
 ghost use Rattle.management.specs.Serving.{Serves, in_area, answer_told};
 ghost use Rattle.management.specs.Parts.{snapshot_of};
 
+use crate::asking::Initiator;
 use crate::parts::ManagementAgent;
 use access::Access;
 use bus::Bus;
-use reader::ids::{Eui64, NodeId};
+use reader::ids::NodeId;
 use reader::refusal::Refusal;
 use reader::request::{Function, Request};
 use responses::writing::SMALLEST_AREA;
@@ -30,38 +30,50 @@ impl<B: Bus, A: Access> ManagementAgent<B, A> {
         ensures area { response.new ≡ stored response.old (in_area response.old (outcome (scene B.Bus.model A.Access.model (snapshot_of self.old)) source request.now)) }
         ensures step { smallest_area ≤ length response.old → Step B.Bus.model A.Access.model (snapshot_of self.old) (Asked source request.now) (answer_told result) (snapshot_of self.new) }
     {
-        if response.len() < SMALLEST_AREA {
-            return Err(Refusal::ResponseArea(response.len()));
-        }
+        let length = response.len();
+        let Some(front) = response.first_chunk_mut::<SMALLEST_AREA>() else {
+            return Err(Refusal::ResponseArea(length));
+        };
+        self.serve_in(source, request, front)
+    }
+
+    // With room for every response.
+    fn serve_in(
+        &mut self,
+        source: NodeId,
+        request: &Request,
+        response: &mut [u8; SMALLEST_AREA],
+    ) -> Result<usize, Refusal>
+        ensures served { Serves (snapshot_of self.old) (outcome (scene B.Bus.model A.Access.model (snapshot_of self.old)) source request.now) result (snapshot_of self.new) }
+        ensures area { response.new ≡ stored response.old (outcome (scene B.Bus.model A.Access.model (snapshot_of self.old)) source request.now) }
+        ensures whole { length response.new ≡ smallest_area }
+    {
         if request.rq_fmt != 0 || is_unknown(request.function) {
             return Err(Refusal::RequestTypeNotSupported);
         }
-        let Some(eui) = self.bus.who(source) else {
+        let Some(eui_64) = self.bus.who(source) else {
             return Err(Refusal::Unspecified(source));
         };
-        self.serve_function(source, eui, request, response)
+        let node = source;
+        self.serve_function(Initiator { node, eui_64 }, request, response)
     }
 
-    // By the function, from the station with this EUI-64.
     fn serve_function(
         &mut self,
-        source: NodeId,
-        eui: Eui64,
+        from: Initiator,
         request: &Request,
-        response: &mut [u8],
+        response: &mut [u8; SMALLEST_AREA],
     ) -> Result<usize, Refusal>
-        requires smallest_area_in_bounds { smallest_area ≤ length response.old }
-        requires eui_value { none_eui eui ≡ false }
-        ensures served { Serves (snapshot_of self.old) (by_function request.now.function (scene B.Bus.model A.Access.model (snapshot_of self.old)) source eui request.now) result (snapshot_of self.new) }
-        ensures area { response.new ≡ stored response.old (by_function request.now.function (scene B.Bus.model A.Access.model (snapshot_of self.old)) source eui request.now) }
+        ensures served { Serves (snapshot_of self.old) (by_function request.now.function (scene B.Bus.model A.Access.model (snapshot_of self.old)) from.node from.eui_64 request.now) result (snapshot_of self.new) }
+        ensures area { response.new ≡ stored response.old (by_function request.now.function (scene B.Bus.model A.Access.model (snapshot_of self.old)) from.node from.eui_64 request.now) }
     {
         match request.function {
-            Function::Login if request.update => self.update(source, request, response),
-            Function::Login => self.login(source, eui, request, response),
+            Function::Login if request.update => self.update(from.node, request, response),
+            Function::Login => self.login(from, request, response),
             Function::QueryLogins => self.query(request, response),
-            Function::Reconnect => self.reconnect(source, eui, request),
-            Function::NodeHandle => self.node_handle(source, request, response),
-            Function::Logout => self.logout(source, request),
+            Function::Reconnect => self.reconnect(from, request),
+            Function::NodeHandle => self.node_handle(from.node, request, response),
+            Function::Logout => self.logout(from.node, request),
             Function::Unknown(_) => Err(Refusal::RequestTypeNotSupported),
         }
     }
@@ -70,8 +82,5 @@ impl<B: Bus, A: Access> ManagementAgent<B, A> {
 fn is_unknown(function: Function) -> bool
     ensures { result ≡ unknown function }
 {
-    match function {
-        Function::Unknown(_) => true,
-        _ => false,
-    }
+    matches!(function, Function::Unknown(_))
 }
