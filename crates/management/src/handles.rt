@@ -112,10 +112,9 @@ impl<B: Bus, A: Access> ManagementAgent<B, A> {
             self.tables.sweep_handles(HandleSweep::OthersOf(login));
             return Ok(0);
         }
-        if number < 1 {
-            return Err(Refusal::NodeHandleNotRecognized);
-        }
-        let place = usize::from(number) - 1;
+        let place = usize::from(number)
+            .checked_sub(1)
+            .ok_or(Refusal::NodeHandleNotRecognized)?;
         let handle = self.tables.handle(place);
         if handle.login != login {
             return Err(Refusal::NodeHandleNotRecognized);

@@ -80,10 +80,9 @@ impl<B: Bus, A: Access> ManagementAgent<B, A> {
     pub(crate) fn own_login(&self, source: NodeId, id: u16) -> Result<LoginSlot, Refusal>
         ensures { MatchResult result (λ s. own_login (snapshot_of self.now).book source id ≡ Some s.slot) (λ e. (own_login (snapshot_of self.now).book source id ≡ None) × (e ≡ LoginIdNotRecognized)) }
     {
-        if id < 1 {
-            return Err(Refusal::LoginIdNotRecognized);
-        }
-        let slot = usize::from(id) - 1;
+        let slot = usize::from(id)
+            .checked_sub(1)
+            .ok_or(Refusal::LoginIdNotRecognized)?;
         let login = self.tables.login(slot);
         match login.state() {
             LoginState::Active if login.owner_id == source => Ok(LoginSlot { slot }),
@@ -95,10 +94,9 @@ impl<B: Bus, A: Access> ManagementAgent<B, A> {
     pub(crate) fn handle_place(&self) -> Result<usize, Refusal>
         ensures { MatchResult result (λ k. (free_handle_place (snapshot_of self.now).book ≡ Some k) × (k < handles_size)) (λ e. (free_handle_place (snapshot_of self.now).book ≡ None) × (e ≡ ResourcesUnavailable (handles_in_use (snapshot_of self.now).book))) }
     {
-        match self.tables.free_handle() {
-            Some(place) => Ok(place),
-            None => Err(Refusal::ResourcesUnavailable(self.tables.count_handles())),
-        }
+        self.tables.free_handle().ok_or_else(|| Refusal::ResourcesUnavailable(
+            self.tables.count_handles(),
+        ))
     }
 
     // A free slot for a login, if there is one.
@@ -194,10 +192,9 @@ impl<B: Bus, A: Access> ManagementAgent<B, A> {
         ensures silent { response (reconnect_outcome (scene B.Bus.model A.Access.model (snapshot_of self.old)) from.node from.eui_64 request.now) ≡ [] }
     {
         let id = request.unit_or_login_id;
-        if id < 1 {
-            return Err(Refusal::LoginIdNotRecognized);
-        }
-        let slot = usize::from(id) - 1;
+        let slot = usize::from(id)
+            .checked_sub(1)
+            .ok_or(Refusal::LoginIdNotRecognized)?;
         let login = self.tables.login(slot);
         if !login.is_holder() || login.owner_eui_64 != from.eui_64 {
             return Err(Refusal::LoginIdNotRecognized);
