@@ -7,19 +7,21 @@ ghost use Rattle.rules.specs.Responses.{query_entry, query_entries, query_respon
 ghost use Rattle.responses.specs.Writing.{write_answer, write_area, entries_size};
 
 use crate::writing::SMALLEST_AREA;
-use logins::rows::{Holders, Login};
+use logins::rows::{Holders, Login, LoginState};
 use reader::refusal::Refusal;
 use tables::tables::{LOGINS, Tables};
+
+// One entry for each slot.
+const ENTRIES_SIZE: usize = 12 * LOGINS;
 
 // The login ID, or how many ticks are left less 2.
 fn id_or_ticks(slot: usize, login: Login) -> u16
     requires { slot < logins_size }
     ensures { result ≡ (if reserved (row_of login) then login.ticks_left - 2 else slot + 1) }
 {
-    if !login.owner_eui_64.is_none() && login.owner_id.is_none() {
-        login.ticks_left.saturating_sub(2)
-    } else {
-        slot as u16 + 1
+    match login.state() {
+        LoginState::Reserved => login.ticks_left.saturating_sub(2),
+        LoginState::Free | LoginState::Active => slot as u16 + 1,
     }
 }
 
@@ -33,9 +35,8 @@ fn entry(slot: usize, login: Login) -> [u8; 12]
     [a, b, c, d, e, f, g, h, i, j, k, l]
 }
 
-// The entries at the front of an area that has room for all, and how many bytes they take.
-fn write_entries(area: &mut [u8], unit: u16, room: u16, tables: &Tables) -> usize
-    requires { entries_size ≤ length area.old }
+// The entries at the front of an area, and how many bytes they take.
+fn write_entries(area: &mut [u8; ENTRIES_SIZE], unit: u16, room: u16, tables: &Tables) -> usize
     ensures within { result ≤ entries_size }
     ensures told { take result area.new ≡ query_entries unit room 0 (book_of tables.now).logins }
 {
@@ -63,7 +64,7 @@ pub fn write_query(area: &mut [u8], unit: u16, room: u16, tables: &Tables) -> Re
     if area.len() < SMALLEST_AREA {
         return Err(Refusal::ResponseArea(area.len()));
     }
-    let mut entries = [0; 192];
+    let mut entries = [0; ENTRIES_SIZE];
     let told = write_entries(&mut entries, unit, room.saturating_sub(4), tables);
     let [high, low] = (4 + told as u16).to_be_bytes();
     area[0..4].copy_from_slice(&[high, low, 0, 16]);
