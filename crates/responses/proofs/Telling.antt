@@ -1,6 +1,6 @@
 -- One holder after another in the response to a query. Assumes nothing.
-use Rattle.std.proofs.Common.{◌≡◌, ℕ, ◌+◌, ◌-◌, ◌<◌, ◌≤◌, true, false, cond, ltb, List, [], ◌++◌, length, drop, sym, ap, ◌∙◌}
-use Rattle.std.proofs.lemmas.List.{append-nil, append_assoc, at_drop_more, at_drop_all}
+use Rattle.std.proofs.Common.{◌≡◌, ℕ, ◌+◌, ◌-◌, ◌<◌, ◌≤◌, true, false, cond, ltb, List, [], ◌++◌, length, take, drop, sym, ap, ◌∙◌}
+use Rattle.std.proofs.lemmas.List.{append-nil, append_assoc, length-take-le, take-append-drop, drop-drop, at_drop_more, at_drop_all}
 use Rattle.std.proofs.lemmas.Bool.{cond-true, cond-false, lt-ltb, le-ltb}
 use Rattle.logins.specs.Logins.{free_row}
 use Rattle.logins.specs.Rows.{row_at}
@@ -39,3 +39,16 @@ module _ (rows : List LoginRow) (unit room slot : ℕ) (told all : List ℕ) (so
         ∙ ap (λ (n : ℕ). told ++ (query_entry slot (row_at rows slot) ++ query_entries unit n (slot + 1) (drop (slot + 1) rows))) q
         ∙ ap (λ (z : List ℕ). told ++ z) (sym (here ∙ cond-true _ _ _ e ∙ cond-false _ _ _ (le-ltb room 12 fits)))
         ∙ so_far
+
+-- an area that begins with what is told and keeps the rest
+module _ (area before all : List ℕ) (at : ℕ) (told : take at area ≡ all) (kept : drop at area ≡ drop at before) (inside : at ≤ length area) where
+  pub told_length : at ≡ length all
+  told_length = sym (length-take-le at area inside) ∙ ap length told
+
+  pub told_area : area ≡ all ++ drop at before
+  told_area = sym (take-append-drop at area) ∙ ap (λ (z : List ℕ). z ++ drop at area) told ∙ ap (λ (z : List ℕ). all ++ z) kept
+
+-- what is kept from a place on is kept further behind
+pub kept_behind : (area before : List ℕ) (at more next : ℕ) → drop at area ≡ drop at before → next ≡ at + more → drop next area ≡ drop next before
+kept_behind area before at more next kept e =
+    ap (λ (n : ℕ). drop n area) e ∙ sym (drop-drop more at area) ∙ ap (drop more) kept ∙ drop-drop more at before ∙ ap (λ (n : ℕ). drop n before) (sym e)

@@ -1,5 +1,5 @@
 // The response to a query: the holders of a unit, as many as there is room for.
-ghost use Rattle.std.specs.Prelude.{◌≡◌, ◌+◌, ◌-◌, ◌<◌, ◌≤◌, length, take, if◌then◌else◌};
+ghost use Rattle.std.specs.Prelude.{◌≡◌, ◌+◌, ◌-◌, ◌<◌, ◌≤◌, ◌++◌, length, drop, if◌then◌else◌};
 ghost use Rattle.logins.specs.Logins.{row_of, reserved};
 ghost use Rattle.logins.specs.Rows.{logins_size};
 ghost use Rattle.tables.specs.Books.{book_of};
@@ -10,9 +10,6 @@ use crate::writing::SMALLEST_AREA;
 use logins::rows::{Holders, Login, LoginState};
 use reader::refusal::Refusal;
 use tables::tables::{LOGINS, Tables};
-
-// One entry for each slot.
-const ENTRIES_SIZE: usize = 12 * LOGINS;
 
 // The login ID, or how many ticks are left less 2.
 fn id_or_ticks(slot: usize, login: Login) -> u16
@@ -35,11 +32,14 @@ fn entry(slot: usize, login: Login) -> [u8; 12]
     [a, b, c, d, e, f, g, h, i, j, k, l]
 }
 
-// The entries at the front of an area, and how many bytes they take.
-fn write_entries(area: &mut [u8; ENTRIES_SIZE], unit: u16, room: u16, tables: &Tables) -> usize
+// The entries at the front of an area that has room for all, and how many bytes they take.
+fn write_entries(area: &mut [u8], unit: u16, room: u16, tables: &Tables) -> usize
+    requires { entries_size ≤ length area.old }
+    ensures value { result ≡ length (query_entries unit room 0 (book_of tables.now).logins) }
     ensures within { result ≤ entries_size }
-    ensures told { take result area.new ≡ query_entries unit room 0 (book_of tables.now).logins }
+    ensures after { area.new ≡ query_entries unit room 0 (book_of tables.now).logins ++ drop result area.old }
 {
+    // Bytes are counted here, and no logins: the count is what is given back.
     let mut at = 0;
     let mut left = room;
     for slot in 0..LOGINS {
@@ -64,10 +64,8 @@ pub fn write_query(area: &mut [u8], unit: u16, room: u16, tables: &Tables) -> Re
     if area.len() < SMALLEST_AREA {
         return Err(Refusal::ResponseArea(area.len()));
     }
-    let mut entries = [0; ENTRIES_SIZE];
-    let told = write_entries(&mut entries, unit, room.saturating_sub(4), tables);
+    let told = write_entries(&mut area[4..], unit, room.saturating_sub(4), tables);
     let [high, low] = (4 + told as u16).to_be_bytes();
     area[0..4].copy_from_slice(&[high, low, 0, 16]);
-    area[4..4 + told].copy_from_slice(&entries[0..told]);
     Ok(4 + told)
 }
