@@ -8,46 +8,16 @@ use crate::ids::{Eui64, NodeId};
 use crate::refusal::Refusal;
 use std::fmt;
 
-// Sixteen bits as four digits.
-#[derive(Clone, Copy)]
-struct Hex(u16);
-
 /// A byte as two digits.
 #[derive(Clone, Copy)]
 pub struct HexByte(pub u8);
-
-fn digit(value: u16) -> char
-    requires { value < 16 }
-    ensures { encode result ≡ digit_glyph true value ∷ [] }
-{
-    let code = value as u8;
-    if code < 10 {
-        char::from(b'0' + code)
-    } else {
-        char::from(b'A' - 10 + code)
-    }
-}
-
-impl fmt::Display for Hex {
-    ghost output = { λ h. Some (hex4 h.0) };
-
-    fn fmt<W: fmt::Write>(&self, f: &mut fmt::Formatter<W>) -> fmt::Result {
-        let a = digit(self.0 / 4096);
-        let b = digit(self.0 / 256 % 16);
-        let c = digit(self.0 / 16 % 16);
-        let d = digit(self.0 % 16);
-        write!(f, "{a}{b}{c}{d}")
-    }
-}
 
 impl fmt::Display for HexByte {
     ghost output = { λ b. Some (hex2 b.0) };
 
     fn fmt<W: fmt::Write>(&self, f: &mut fmt::Formatter<W>) -> fmt::Result {
-        let byte = u16::from(self.0);
-        let high = digit(byte / 16);
-        let low = digit(byte % 16);
-        write!(f, "{high}{low}")
+        let byte = self.0;
+        write!(f, "{byte:02X}")
     }
 }
 
@@ -55,8 +25,8 @@ impl fmt::Display for NodeId {
     ghost output = { λ n. Some (id_text n) };
 
     fn fmt<W: fmt::Write>(&self, f: &mut fmt::Formatter<W>) -> fmt::Result {
-        let digits = Hex(self.0);
-        write!(f, "{digits}")
+        let id = self.0;
+        write!(f, "{id:04X}")
     }
 }
 
@@ -64,11 +34,8 @@ impl fmt::Display for Eui64 {
     ghost output = { λ e. Some (eui_text e) };
 
     fn fmt<W: fmt::Write>(&self, f: &mut fmt::Formatter<W>) -> fmt::Result {
-        let a = Hex((self.0 / 0x1_0000_0000_0000) as u16);
-        let b = Hex((self.0 / 0x1_0000_0000 % 0x1_0000) as u16);
-        let c = Hex((self.0 / 0x1_0000 % 0x1_0000) as u16);
-        let d = Hex((self.0 % 0x1_0000) as u16);
-        write!(f, "{a}{b}{c}{d}")
+        let id = self.0;
+        write!(f, "{id:016X}")
     }
 }
 
