@@ -1,13 +1,12 @@
 -- What `{:04X}` and `{:016X}` write of a number is its digits, all of them.
-use Rattle.std.proofs.Common.{◌≡◌, ℕ, suc, zero, ◌+◌, ◌-◌, ◌*◌, ◌/◌, ◌%◌, ◌^◌, ◌<◌, ◌≤◌, Bool, true, false, List, [], ◌∷◌, ◌++◌, length, replicate, arith, sym, ap, ◌∙◌, refl, append_assoc, append-nil}
-use Rattle.std.specs.Fmt.{digit_glyph, digits, digits_onto, padded_integral, before_digits, char_count, format_spec}
+use Rattle.std.proofs.Common.{◌≡◌, ℕ, suc, zero, ◌+◌, ◌-◌, ◌/◌, ◌%◌, ◌^◌, ◌<◌, ◌≤◌, true, false, List, [], ◌∷◌, ◌++◌, length, replicate, arith, sym, ap, ◌∙◌, refl, append_assoc, append-nil}
+use Rattle.std.specs.Fmt.{digit_glyph, digits, digits_onto, padded_integral, char_count, format_spec}
 use Rattle.std.proofs.lemmas.Bool.{cases_lt}
 use Rattle.std.proofs.lemmas.List.{replicate_more}
 use Rattle.std.proofs.lemmas.Nat.{div_below}
 use Rattle.std.proofs.Math.Nat.{pow-suc}
 use mathlib.Core.Logic.{⊎_elim}
 use Rattle.reader.specs.Texts.{hex4, eui_text}
-use Rattle.reader.specs.declared.ids.Eui64.{Eui64}
 
 -- the last k digits of n, before what follows
 abbrev last_digits : ℕ → ℕ → List ℕ → List ℕ

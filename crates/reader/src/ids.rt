@@ -41,7 +41,7 @@ impl NodeId {
 }
 
 impl Eui64 {
-    pub const NONE: Eui64 = Eui64(0xFFFF_FFFF_FFFF_FFFF);
+    pub const NONE: Eui64 = Eui64(u64::MAX);
 
     pub fn is_none(self) -> bool
         ensures { result ≡ none_eui self }

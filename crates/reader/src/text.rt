@@ -1,8 +1,6 @@
 // Node IDs, EUI-64s and refusals as text, for whoever reads a journal.
-ghost use Rattle.std.specs.Prelude.{◌≡◌, ◌<◌, true, [], ◌∷◌, Some};
-ghost use Rattle.std.specs.Fmt.{digit_glyph};
-ghost use Rattle.std.proofs.Math.Utf8.{encode};
-ghost use Rattle.reader.specs.Texts.{hex2, hex4, id_text, eui_text, refusal_words, refusal_text};
+ghost use Rattle.std.specs.Prelude.{◌≡◌, Some};
+ghost use Rattle.reader.specs.Texts.{hex2, id_text, eui_text, refusal_words, refusal_text};
 
 use crate::ids::{Eui64, NodeId};
 use crate::refusal::Refusal;
@@ -99,20 +97,11 @@ impl fmt::Display for Refusal {
 
     fn fmt<W: fmt::Write>(&self, f: &mut fmt::Formatter<W>) -> fmt::Result {
         let (name, about) = self.words();
-        let number = self.number();
+        write!(f, "{name} ({}): {about} ", self.number())?;
         match *self {
-            Refusal::Unspecified(node) | Refusal::NotedElsewhere(node) => write!(
-                f,
-                "{name} ({number}): {about} {node}"
-            ),
-            Refusal::OrbAddress(address) => {
-                let address = Eui64(address);
-                write!(f, "{name} ({number}): {about} {address}")
-            }
-            _ => {
-                let value = self.value();
-                write!(f, "{name} ({number}): {about} {value}")
-            }
+            Refusal::Unspecified(node) | Refusal::NotedElsewhere(node) => write!(f, "{node}"),
+            Refusal::OrbAddress(address) => write!(f, "{}", Eui64(address)),
+            _ => write!(f, "{}", self.value()),
         }
     }
 }

@@ -1,5 +1,5 @@
 -- 64 bits have sixteen digits.
-use Rattle.std.proofs.Common.{true, rules, arith, ◌<◌, ◌^◌}
+use Rattle.std.proofs.Common.{rules, ◌<◌, ◌^◌}
 use Rattle.reader.proofs.Hexadecimal.{sixteen_digits}
 use Rattle.reader.proofs.text.Eui64Display.fmt.Goals as goal
 

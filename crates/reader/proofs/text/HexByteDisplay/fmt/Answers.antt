@@ -1,6 +1,6 @@
 -- A byte has two digits.
 use Rattle.std.proofs.lemmas.Fmt.{hex_byte}
-use Rattle.std.proofs.Common.{true, rules, arith, ◌<◌}
+use Rattle.std.proofs.Common.{true, rules, ◌<◌}
 use Rattle.reader.specs.Texts.{hex2}
 use Rattle.reader.proofs.text.HexByteDisplay.fmt.Goals as goal
 

@@ -1,5 +1,5 @@
 -- Sixteen bits have four digits.
-use Rattle.std.proofs.Common.{true, rules, arith, ◌<◌}
+use Rattle.std.proofs.Common.{rules, ◌<◌}
 use Rattle.reader.proofs.Hexadecimal.{four_digits}
 use Rattle.reader.proofs.text.NodeIdDisplay.fmt.Goals as goal
 
