@@ -1,6 +1,6 @@
 // The request reader and the status writer for link firmware in C, on numbers and byte areas.
-// The crate reader_c exports them under the same names: C needs a static library, and no crate is built both as that and
-// as a library of Rust.
+// The crate reader_c exports them under the same names: C needs a static library, and no crate is built both as a static
+// library and as a library of Rust.
 ghost use Rattle.std.specs.Prelude.{◌≡◌};
 ghost use Rattle.reader.specs.Links.{link_fields, link_number, link_filled, block_number};
 ghost use Rattle.reader.specs.Blocks.{block_put};
