@@ -1,8 +1,10 @@
 // Requests, status blocks and refusals on examples.
 use reader::ids::{Eui64, NodeId};
+use reader::link::LinkRequest;
 use reader::refusal::{Layer, Refusal};
 use reader::request::{Function, Request};
 use reader::status::write_status;
+use reader::text::HexByte;
 use std::test::Fail;
 
 const LOGIN: [u8; 32] = [
@@ -23,7 +25,20 @@ fn a_login_is_read_field_by_field(rt: HostRuntime) -> Result<(), Fail> {
     assert!(rt; request.reconnect == 2 && request.hold() == 3);
     assert!(rt; request.unit_or_login_id == 1 && request.node_or_handle == 0xFFC1);
     assert!(rt; request.response_length == 16 && request.status_fifo == 0xFFFF_F002_0008);
+    assert!(rt; Request::from(&LOGIN) == request);
     Ok(())
+}
+
+#[test]
+fn a_function_has_a_number(rt: HostRuntime) {
+    assert!(rt; Function::from(5) == Function::NodeHandle && u8::from(Function::NodeHandle) == 5);
+    assert!(rt; Function::from(6) == Function::Unknown(6) && u8::from(Function::Unknown(6)) == 6);
+}
+
+#[test]
+fn fields_for_c_are_those_of_the_request(rt: HostRuntime) {
+    let fields = LinkRequest::from(Request::from(&LOGIN));
+    assert!(rt; fields.eui_64 == 10 && fields.function == 0 && fields.hold == 3 && fields.notify);
 }
 
 #[test]
@@ -81,6 +96,8 @@ fn a_refusal_tells_its_number_value_and_layer(rt: HostRuntime) -> Result<(), Fai
         nobody.as_str(),
         "unspecified error (255): nobody is at node FFC9"
     );
+    let byte = HexByte(0x0A).to_string(rt.alloc())?;
+    assert_eq!(rt; byte.as_str(), "0A");
     let address = Refusal::OrbAddress(0x1_0000_0000_0002).to_string(rt.alloc())?;
     assert_eq!(rt;
         address.as_str(),

@@ -16,13 +16,13 @@ impl NodeId {
     pub fn is_none(self) -> bool
         ensures { result ≡ none_id self }
     {
-        self.0 == 0xFFFF
+        self == NodeId::NONE
     }
 
     pub fn is_local(self) -> bool
         ensures { result ≡ local self }
     {
-        self.0 >= 0xFFC0 && self.0 < 0xFFFF
+        (0xFFC0..0xFFFF).contains(&self.0)
     }
 
     /// Of another bus, for all its nodes.
@@ -41,11 +41,11 @@ impl NodeId {
 }
 
 impl Eui64 {
-    pub const NONE: Eui64 = Eui64(0xFFFF_FFFF_FFFF_FFFF);
+    pub const NONE: Eui64 = Eui64(u64::MAX);
 
     pub fn is_none(self) -> bool
         ensures { result ≡ none_eui self }
     {
-        self.0 == u64::MAX
+        self == Eui64::NONE
     }
 }

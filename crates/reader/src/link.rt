@@ -1,6 +1,8 @@
-// The request reader and the status writer for link firmware in C, on numbers and byte areas. The crate reader_c exports them.
+// The request reader and the status writer for link firmware in C, on numbers and byte areas.
+// The crate reader_c exports them under the same names: C needs a static library, and no crate is built both as a static
+// library and as a library of Rust.
 ghost use Rattle.std.specs.Prelude.{◌≡◌};
-ghost use Rattle.reader.specs.Links.{link_number, link_filled, block_number};
+ghost use Rattle.reader.specs.Links.{link_fields, link_number, link_filled, block_number};
 ghost use Rattle.reader.specs.Blocks.{block_put};
 
 use crate::request::Request;
@@ -25,6 +27,28 @@ pub struct LinkRequest {
     pub update: bool,
 }
 
+impl From<Request> for LinkRequest {
+    ghost from_gives = { λ q l. l ≡ link_fields q };
+
+    fn from(request: Request) -> LinkRequest {
+        LinkRequest {
+            eui_64: request.eui_64.0,
+            status_fifo: request.status_fifo,
+            unit_or_login_id: request.unit_or_login_id,
+            node_or_handle: request.node_or_handle,
+            response_length: request.response_length,
+            rq_fmt: request.rq_fmt,
+            reconnect: request.reconnect,
+            function: u8::from(request.function),
+            hold: request.hold(),
+            notify: request.notify,
+            exclusive_or_allocate: request.exclusive_or_allocate,
+            aware: request.aware,
+            update: request.update,
+        }
+    }
+}
+
 /// 0 and the fields of the request, or 32 and `out` as it was.
 pub fn sbp_read_request(bytes: &[u8], out: &mut LinkRequest) -> u32
     ensures value { result ≡ link_number bytes.now }
@@ -32,21 +56,7 @@ pub fn sbp_read_request(bytes: &[u8], out: &mut LinkRequest) -> u32
 {
     match Request::read(bytes) {
         Ok(request) => {
-            *out = LinkRequest {
-                eui_64: request.eui_64.0,
-                status_fifo: request.status_fifo,
-                unit_or_login_id: request.unit_or_login_id,
-                node_or_handle: request.node_or_handle,
-                response_length: request.response_length,
-                rq_fmt: request.rq_fmt,
-                reconnect: request.reconnect,
-                function: request.function.number(),
-                hold: request.hold(),
-                notify: request.notify,
-                exclusive_or_allocate: request.exclusive_or_allocate,
-                aware: request.aware,
-                update: request.update,
-            };
+            *out = LinkRequest::from(request);
             0
         }
         Err(refusal) => u32::from(refusal.number()),

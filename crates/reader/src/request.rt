@@ -1,7 +1,7 @@
 // The request (ORB): 32 bytes from a station, read into fields.
-ghost use Rattle.std.specs.Prelude.{◌≡◌, ℕ, ◌+◌, ◌<◌, ◌≤◌, length};
-ghost use Rattle.reader.specs.Quadlets.{big2, big4, big8, bit};
-ghost use Rattle.reader.specs.Requests.{function_in, function_number, request_read, hold_asked, HoldLaw};
+ghost use Rattle.std.specs.Prelude.{◌≡◌, ℕ, ◌+◌, ◌<◌, ◌≤◌, slice_index};
+ghost use Rattle.reader.specs.Quadlets.{bit};
+ghost use Rattle.reader.specs.Requests.{function_in, function_number, request_in, request_read, hold_asked, HoldLaw};
 
 use crate::ids::Eui64;
 use crate::refusal::Refusal;
@@ -35,10 +35,10 @@ pub struct Request {
     pub status_fifo: u64,
 }
 
-impl Function {
-    fn of(number: u8) -> Function
-        ensures { result ≡ function_in number }
-    {
+impl From<u8> for Function {
+    ghost from_gives = { λ n f. f ≡ function_in n };
+
+    fn from(number: u8) -> Function {
         match number {
             0 => Function::Login,
             1 => Function::QueryLogins,
@@ -48,12 +48,14 @@ impl Function {
             other => Function::Unknown(other),
         }
     }
+}
 
-    /// The number that stands in the request.
-    pub fn number(self) -> u8
-        ensures { result ≡ function_number self }
-    {
-        match self {
+/// The number that stands in the request.
+impl From<Function> for u8 {
+    ghost from_gives = { λ f n. n ≡ function_number f };
+
+    fn from(function: Function) -> u8 {
+        match function {
             Function::Login => 0,
             Function::QueryLogins => 1,
             Function::Reconnect => 3,
@@ -64,29 +66,37 @@ impl Function {
     }
 }
 
+impl From<&[u8; 32]> for Request {
+    ghost from_gives = { λ orb q. q ≡ request_in orb.now };
+
+    fn from(orb: &[u8; 32]) -> Request {
+        let word = u32::from_be_bytes(bytes_at(orb, 16));
+        Request {
+            eui_64: Eui64(u64::from_be_bytes(bytes_at(orb, 0))),
+            notify: flag(word, 31),
+            rq_fmt: ((word >> 29) & 0b11) as u8,
+            exclusive_or_allocate: flag(word, 28),
+            aware: flag(word, 27),
+            update: flag(word, 26),
+            reconnect: ((word >> 20) & 0xF) as u8,
+            function: Function::from(((word >> 16) & 0xF) as u8),
+            unit_or_login_id: (word & 0xFFFF) as u16,
+            node_or_handle: u16::from_be_bytes(bytes_at(orb, 20)),
+            response_length: u16::from_be_bytes(bytes_at(orb, 22)),
+            status_fifo: u64::from_be_bytes(bytes_at(orb, 24)),
+        }
+    }
+}
+
 impl Request {
     /// The fields of 32 bytes; any other length is refused.
     pub fn read(bytes: &[u8]) -> Result<Request, Refusal>
         ensures { result ≡ request_read bytes.now }
     {
-        if bytes.len() != 32 {
-            return Err(Refusal::RequestLength(bytes.len()));
+        match bytes.as_array() {
+            Some(orb) => Ok(Request::from(orb)),
+            None => Err(Refusal::RequestLength(bytes.len())),
         }
-        let word = quadlet(bytes, 16);
-        Ok(Request {
-            eui_64: Eui64(octlet(bytes, 0)),
-            notify: flag(word, 31),
-            rq_fmt: ((word >> 29) % 4) as u8,
-            exclusive_or_allocate: flag(word, 28),
-            aware: flag(word, 27),
-            update: flag(word, 26),
-            reconnect: ((word >> 20) % 16) as u8,
-            function: Function::of(((word >> 16) % 16) as u8),
-            unit_or_login_id: (word % 0x1_0000) as u16,
-            node_or_handle: half(bytes, 20),
-            response_length: half(bytes, 22),
-            status_fifo: octlet(bytes, 24),
-        })
     }
 
     /// For how long a login or an update asks its login to be held after a reset, in ticks.
@@ -104,30 +114,19 @@ impl Request {
     }
 }
 
-fn half(bytes: &[u8], at: usize) -> u16
-    requires { at + 2 ≤ length bytes.now }
-    ensures { result ≡ big2 bytes.now at }
+// N bytes of a request from a place on.
+fn bytes_at<const N: usize>(orb: &[u8; 32], at: usize) -> [u8; N]
+    requires { at + N ≤ 32 }
+    ensures { (i : ℕ) → i < N → slice_index result i ≡ slice_index orb.now (at + i) }
 {
-    u16::from_be_bytes([bytes[at], bytes[at + 1]])
-}
-
-fn quadlet(bytes: &[u8], at: usize) -> u32
-    requires { at + 4 ≤ length bytes.now }
-    ensures { result ≡ big4 bytes.now at }
-{
-    u32::from_be_bytes([bytes[at], bytes[at + 1], bytes[at + 2], bytes[at + 3]])
-}
-
-fn octlet(bytes: &[u8], at: usize) -> u64
-    requires { at + 8 ≤ length bytes.now }
-    ensures { result ≡ big8 bytes.now at }
-{
-    u64::from(quadlet(bytes, at)) * 0x1_0000_0000 + u64::from(quadlet(bytes, at + 4))
+    let mut bytes = [0; N];
+    bytes.copy_from_slice(&orb[at..at + N]);
+    bytes
 }
 
 fn flag(word: u32, k: u32) -> bool
     requires { k < 32 }
     ensures { result ≡ bit word k }
 {
-    (word >> k) % 2 == 1
+    (word >> k) & 1 == 1
 }

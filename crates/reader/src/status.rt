@@ -10,10 +10,10 @@ pub fn write_status(area: &mut [u8], status: u8, orb_address: u64) -> Result<(),
     ensures value { result ≡ block_answer area.old }
     ensures after { area.new ≡ block_put area.old status orb_address }
 {
-    if area.len() < 8 {
+    let Some(front) = area.first_chunk_mut() else {
         return Err(Refusal::StatusArea(area.len()));
-    }
+    };
     let [_, _, a, b, c, d, e, f] = orb_address.to_be_bytes();
-    area[0..8].copy_from_slice(&[1, status, a, b, c, d, e, f]);
+    *front = [1, status, a, b, c, d, e, f];
     Ok(())
 }

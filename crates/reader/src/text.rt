@@ -1,53 +1,21 @@
 // Node IDs, EUI-64s and refusals as text, for whoever reads a journal.
-ghost use Rattle.std.specs.Prelude.{◌≡◌, ◌<◌, true, [], ◌∷◌, Some};
-ghost use Rattle.std.specs.Fmt.{digit_glyph};
-ghost use Rattle.std.proofs.Math.Utf8.{encode};
-ghost use Rattle.reader.specs.Texts.{hex2, hex4, id_text, eui_text, refusal_words, refusal_text};
+ghost use Rattle.std.specs.Prelude.{◌≡◌, Some};
+ghost use Rattle.reader.specs.Texts.{hex2, id_text, eui_text, refusal_words, refusal_text};
 
 use crate::ids::{Eui64, NodeId};
 use crate::refusal::Refusal;
 use std::fmt;
 
-// Sixteen bits as four digits.
-#[derive(Clone, Copy)]
-struct Hex(u16);
-
 /// A byte as two digits.
 #[derive(Clone, Copy)]
 pub struct HexByte(pub u8);
-
-fn digit(value: u16) -> char
-    requires { value < 16 }
-    ensures { encode result ≡ digit_glyph true value ∷ [] }
-{
-    let code = value as u8;
-    if code < 10 {
-        char::from(b'0' + code)
-    } else {
-        char::from(b'A' - 10 + code)
-    }
-}
-
-impl fmt::Display for Hex {
-    ghost output = { λ h. Some (hex4 h.0) };
-
-    fn fmt<W: fmt::Write>(&self, f: &mut fmt::Formatter<W>) -> fmt::Result {
-        let a = digit(self.0 / 4096);
-        let b = digit(self.0 / 256 % 16);
-        let c = digit(self.0 / 16 % 16);
-        let d = digit(self.0 % 16);
-        write!(f, "{a}{b}{c}{d}")
-    }
-}
 
 impl fmt::Display for HexByte {
     ghost output = { λ b. Some (hex2 b.0) };
 
     fn fmt<W: fmt::Write>(&self, f: &mut fmt::Formatter<W>) -> fmt::Result {
-        let byte = u16::from(self.0);
-        let high = digit(byte / 16);
-        let low = digit(byte % 16);
-        write!(f, "{high}{low}")
+        let byte = self.0;
+        write!(f, "{byte:02X}")
     }
 }
 
@@ -55,8 +23,8 @@ impl fmt::Display for NodeId {
     ghost output = { λ n. Some (id_text n) };
 
     fn fmt<W: fmt::Write>(&self, f: &mut fmt::Formatter<W>) -> fmt::Result {
-        let digits = Hex(self.0);
-        write!(f, "{digits}")
+        let id = self.0;
+        write!(f, "{id:04X}")
     }
 }
 
@@ -64,11 +32,8 @@ impl fmt::Display for Eui64 {
     ghost output = { λ e. Some (eui_text e) };
 
     fn fmt<W: fmt::Write>(&self, f: &mut fmt::Formatter<W>) -> fmt::Result {
-        let a = Hex((self.0 / 0x1_0000_0000_0000) as u16);
-        let b = Hex((self.0 / 0x1_0000_0000 % 0x1_0000) as u16);
-        let c = Hex((self.0 / 0x1_0000 % 0x1_0000) as u16);
-        let d = Hex((self.0 % 0x1_0000) as u16);
-        write!(f, "{a}{b}{c}{d}")
+        let id = self.0;
+        write!(f, "{id:016X}")
     }
 }
 
@@ -132,20 +97,11 @@ impl fmt::Display for Refusal {
 
     fn fmt<W: fmt::Write>(&self, f: &mut fmt::Formatter<W>) -> fmt::Result {
         let (name, about) = self.words();
-        let number = self.number();
+        write!(f, "{name} ({}): {about} ", self.number())?;
         match *self {
-            Refusal::Unspecified(node) | Refusal::NotedElsewhere(node) => write!(
-                f,
-                "{name} ({number}): {about} {node}"
-            ),
-            Refusal::OrbAddress(address) => {
-                let address = Eui64(address);
-                write!(f, "{name} ({number}): {about} {address}")
-            }
-            _ => {
-                let value = self.value();
-                write!(f, "{name} ({number}): {about} {value}")
-            }
+            Refusal::Unspecified(node) | Refusal::NotedElsewhere(node) => write!(f, "{node}"),
+            Refusal::OrbAddress(address) => write!(f, "{}", Eui64(address)),
+            _ => write!(f, "{}", self.value()),
         }
     }
 }

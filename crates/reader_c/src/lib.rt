@@ -1,4 +1,5 @@
-// The C entry points, as a static library: each is the reader's function of that name, under the same contract.
+// The C entry points, as a static library: each is the reader's function of that name, under the same contract. The bodies
+// stay in reader, since no crate is built both as a static library and as a library of Rust.
 #![tactic(auto)]
 
 ghost use Rattle.std.specs.Prelude.{◌≡◌};

@@ -1,7 +1,9 @@
--- Four groups of four digits.
-use Rattle.reader.specs.Texts.{eui_text}
+-- 64 bits have sixteen digits.
+use Rattle.std.proofs.Common.{rules, ◌<◌, ◌^◌}
+use Rattle.reader.proofs.Hexadecimal.{sixteen_digits}
 use Rattle.reader.proofs.text.Eui64Display.fmt.Goals as goal
 
 pub returns-clause-writes : goal.returns-clause-writes
-unfolding eui_text
-returns-clause-writes g c plain ok = c.write.ensures.writes plain ok
+returns-clause-writes g c plain ok =
+    let small : c.args.self.now.0 < 2 ^ 64 = search rules in
+    rw (sixteen_digits c.args.self.now.0 small) at (simp (c.laid_out.ensures, c.in_radix.ensures) at c.write.ensures.writes) plain ok

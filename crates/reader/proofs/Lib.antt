@@ -1,0 +1,2 @@
+mod BigEndian
+mod Hexadecimal
