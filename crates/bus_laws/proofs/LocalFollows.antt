@@ -57,8 +57,8 @@ local_follows = record {
   update_keeps_notes = λ b c u. ap (λ t. seated t.noted) u;
   reset_keeps_notes = λ b c r. ap (λ t. seated t.noted) r;
   note_of_somebody = λ b c i e n real.
-      ap (λ t. seated t.noted i) n.1 ∙ seated_there b.noted.euis i e b.noted.size (sym n.0) ∙ ap (λ none. cond none None (Some e)) real;
-  note_of_nobody = λ b c i n here. ap (λ t. seated t.noted i) n.1 ∙ seated_there b.noted.euis i nobody b.noted.size (sym n.0);
-  note_of_another = λ b c i e a n j other. ap (λ t. seated t.noted j) n.1 ∙ seated_elsewhere_same b.noted.euis i (unwrap_or e nobody) j other;
-  refused_note = λ b c i e r n. ap (λ t. seated t.noted) n.1 ∙ ap seated (seat_refused b.noted.euis i (unwrap_or e nobody) r (sym n.0));
+      ap (λ t. seated t.noted i) n.1 ∙ seated_there b.places.noted.euis i e b.places.noted.size (sym n.0) ∙ ap (λ none. cond none None (Some e)) real;
+  note_of_nobody = λ b c i n here. ap (λ t. seated t.noted i) n.1 ∙ seated_there b.places.noted.euis i nobody b.places.noted.size (sym n.0);
+  note_of_another = λ b c i e a n j other. ap (λ t. seated t.noted j) n.1 ∙ seated_elsewhere_same b.places.noted.euis i (unwrap_or e nobody) j other;
+  refused_note = λ b c i e r n. ap (λ t. seated t.noted) n.1 ∙ ap seated (seat_refused b.places.noted.euis i (unwrap_or e nobody) r (sym n.0));
 }

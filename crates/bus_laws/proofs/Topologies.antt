@@ -30,23 +30,23 @@ module _ {own eui : Eui64} {i : NodeId} {who : Option Eui64} (p q : Portal Local
   no_entry : (portal_tables q).shown ≡ []
   no_entry = ap (λ t. t.shown) s.was_reset.1 ∙ (unseen local_model local_lawful p s.between i (Some eui) s.answer s.noted).shown ∙ ap (λ t. t.shown) new
 
-  at_local : local i ≡ true → seated q.below.shown.euis i ≡ somebody eui
+  at_local : local i ≡ true → seated q.below.places.current.euis i ≡ somebody eui
   at_local here =
       let noted = when_false _ _ (local_not_global i here) s.noted in
-      let places = p.below.noted in
+      let places = p.below.places.noted in
       let empty : places.euis ≡ replicate 63 nobody = ap (λ t. t.noted) below in
-      let then_shown : q.below.shown.euis ≡ seat_after places.euis i eui = ap (λ t. t.shown) s.was_reset.0 ∙ ap (λ t. t.noted) noted.0.1 in
+      let then_shown : q.below.places.current.euis ≡ seat_after places.euis i eui = ap (λ t. t.shown) s.was_reset.0 ∙ ap (λ t. t.noted) noted.0.1 in
       let free = ap (λ euis. local_of (seated euis) eui) empty ∙ nobody_seated eui in
       ap (λ euis. seated euis i) then_shown ∙ seated_there places.euis i eui places.size (seat_free places.euis i eui here free)
 
   elsewhere : local i ≡ false → (portal_model local_model).shows q i ≡ None
   elsewhere away = go (global i)
     where
-      nobody_below : seated q.below.shown.euis i ≡ None
-      nobody_below = seated_elsewhere q.below.shown.euis i away
+      nobody_below : seated q.below.places.current.euis i ≡ None
+      nobody_below = seated_elsewhere q.below.places.current.euis i away
 
-      go : (b : Bool) → cond b (or_else (listed (portal_tables q).shown i) (seated q.below.shown.euis i)) (seated q.below.shown.euis i) ≡ None
-      go true = ap (λ es. or_else (listed es i) (seated q.below.shown.euis i)) no_entry ∙ nobody_below
+      go : (b : Bool) → cond b (or_else (listed (portal_tables q).shown i) (seated q.below.places.current.euis i)) (seated q.below.places.current.euis i) ≡ None
+      go true = ap (λ es. or_else (listed es i) (seated q.below.places.current.euis i)) no_entry ∙ nobody_below
       go false = nobody_below
 
   pub shown_first : who ≡ cond (local i) (somebody eui) None
