@@ -1,21 +1,22 @@
 -- A portal over a bus that keeps the laws keeps them too. Assumes nothing.
-use Rattle.std.specs.Prelude.{◌≡◌, Bool, true, false, cond, List, [], ◌∷◌, Some, None, MatchBool, Option, ◌==◌, refl}
+use Rattle.std.specs.Prelude.{◌≡◌, Bool, true, false, cond, Some, None, MatchBool, Option, refl}
 use Rattle.std.proofs.Common.{sym, ◌∙◌, ap, arith}
 use Rattle.std.proofs.lemmas.Bool.Decides.{nat_tests}
+use Rattle.std.proofs.lemmas.Option.{none-some}
 use Rattle.reader.specs.declared.ids.NodeId.{NodeId}
 use Rattle.reader.specs.declared.ids.Eui64.{Eui64}
 use Rattle.reader.specs.Ids.{none_id, local, broadcast, global, none_eui}
 use Rattle.notes.specs.Tables as notes
 use Rattle.bus.specs.declared.entries.Entry.{Entry}
 use Rattle.bus.specs.declared.portal.Portal.{Portal}
-use Rattle.bus.specs.Meaning.{BusModel, Lawful, Answer, somebody}
+use Rattle.bus.specs.Meaning.{BusModel, Lawful, Answer}
 use Rattle.bus.specs.GlobalTables.{is_at, whom, listed}
 use Rattle.bus.specs.Portals.{portal_tables, or_else, portal_shows, portal_answer, portal_noted, portal_model}
-use Rattle.bus.specs.Seating.{none_some, somebody_is}
+use Rattle.bus.specs.Seating.{somebody_is}
 
 whom_real : (o : Option Entry) (e : Eui64) → whom o ≡ Some e → none_eui e ≡ false
 whom_real (Some x) e h = (somebody_is x.eui e (none_eui x.eui) refl h).1
-whom_real None e h = absurd (none_some e h)
+whom_real None e h = absurd (none-some e h)
 
 none_not_global : (i : NodeId) → none_id i ≡ true → global i ≡ false
 none_not_global i h = grind (arith, nat_tests)

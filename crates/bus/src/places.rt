@@ -32,7 +32,10 @@ impl Places {
         ensures { result ≡ seated self.now.euis node }
     {
         let place = node.0.checked_sub(FIRST)?;
-        self.euis.get(usize::from(place)).copied().and_then(somebody)
+        self.euis
+            .get(usize::from(place))
+            .copied()
+            .and_then(somebody)
     }
 
     pub fn find(&self, eui: Eui64) -> Option<NodeId>

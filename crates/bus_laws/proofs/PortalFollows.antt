@@ -1,6 +1,6 @@
 -- A portal follows its notes where the bus below follows its own. Assumes nothing.
-use Rattle.std.proofs.Common.{◌≡◌, Bool, true, false, cond, not, eqb, List, [], ◌∷◌, ◌++◌, Some, None, Ok, Err, MatchBool, Option, unwrap_or, sym, refl, ap, ◌∙◌, arith}
-use Rattle.std.proofs.lemmas.Bool.{eqb-true, ne_eqb, eq-eqb}
+use Rattle.std.proofs.Common.{◌≡◌, Bool, true, false, cond, not, List, Some, None, Err, MatchBool, Option, unwrap_or, sym, refl, ap, ◌∙◌, arith}
+use Rattle.std.proofs.lemmas.Bool.{ne_eqb, eq-eqb}
 use Rattle.std.proofs.lemmas.Bool.Decides.{when_true, when_false, nat_tests}
 use Rattle.reader.specs.declared.ids.NodeId.{NodeId}
 use Rattle.reader.specs.declared.ids.Eui64.{Eui64}
@@ -9,7 +9,7 @@ use Rattle.reader.specs.Ids.{global, none_eui}
 use Rattle.notes.specs.TablesLemmas.{after_there, after_elsewhere, after_refused}
 use Rattle.bus.specs.declared.entries.Entry.{Entry}
 use Rattle.bus.specs.declared.portal.Portal.{Portal}
-use Rattle.bus.specs.Meaning.{BusModel, Answer, granted, nobody, somebody, if_granted}
+use Rattle.bus.specs.Meaning.{BusModel, Answer, granted, nobody, somebody}
 use Rattle.bus.specs.GlobalTables.{table_size, is_at, whom, listed, others, push_answer, table_answer, table_after}
 use Rattle.bus.specs.Portals.{portal_tables, or_else, portal_shows, portal_answer, portal_noted, portal_model}
 use Rattle.bus_laws.specs.Following.{Follows, PortalFollows, portal_next}

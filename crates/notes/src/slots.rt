@@ -3,7 +3,8 @@ ghost use Rattle.std.specs.Prelude.{◌≡◌, ◌≤◌, length};
 
 use std::alloc::AllocError;
 
-/// The first `count` entries are in use, in the order of noting.
+/// The first `count` entries are in use, in the order of noting. An array and a count, since there is
+/// no heap and a table is copied when its notes come true; an `ArrayVec` is not `Copy`.
 #[derive(Copy)]
 pub struct Table<E, const N: usize> {
     pub(crate) entries: [E; N],
@@ -12,6 +13,7 @@ pub struct Table<E, const N: usize> {
     ghost within: { count ≤ N },
 }
 
+// no `Clone` is derived over ghost fields
 impl<E: Copy, const N: usize> Clone for Table<E, N> {
     ghost is_clone = { λ x y. y ≡ x };
 

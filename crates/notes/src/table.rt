@@ -63,6 +63,7 @@ impl<E: Keyed + Copy, const N: usize> Table<E, N> {
         let mut next = self.without(entry.key());
         if puts_in {
             if next.count == N {
+                // a refusal tells the size in 16 bits
                 return Err(Refusal::TableFull(u16::try_from(N).unwrap_or(u16::MAX)));
             }
             next.push(entry);
