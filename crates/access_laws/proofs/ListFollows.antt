@@ -9,10 +9,10 @@ use Rattle.access.specs.declared.pairs.Pair.{Pair}
 use Rattle.access.specs.declared.makers.MakerNote.{MakerNote}
 use Rattle.access.specs.declared.makers.MakerList.{MakerList}
 use Rattle.notes.specs.Tables.{listed, settled}
-use Rattle.notes.specs.TablesLemmas.{noted_there, noted_elsewhere, noted_not}
-use Rattle.access.specs.Pairs.{pair_places, same_pair, pair_range, noted_pair, pair_tables, pair_admits, pair_model}
+use Rattle.notes.specs.TablesLemmas.{noted_there, noted_elsewhere}
+use Rattle.access.specs.Pairs.{pair_places, same_pair, pair_range, noted_pair, pair_tables}
 use Rattle.access.specs.Makers.{maker_places, is_of, maker_range, puts_in, maker_of, units_of, in_mask, maker_tables, maker_admits, maker_model}
-use Rattle.access_laws.specs.Following.{Follows, PairNotes, pair_next, MakerNotes, maker_next}
+use Rattle.access_laws.specs.Following.{PairNotes, MakerNotes, maker_next}
 
 pub some_or_none : {X : Type 0} (x : X) (b : Bool) → is_some (cond b (Some x) None) ≡ b
 some_or_none x true = refl
@@ -23,14 +23,6 @@ pair_self p = grind (arith, nat_tests)
 
 pair_apart : (p q : Pair) → same_pair p q ≡ false → (x : Pair) → same_pair x p ≡ true → same_pair x q ≡ false
 pair_apart p q other x h = grind (arith, nat_tests)
-
-pub pairs_follow : Follows pair_model pair_next
-pairs_follow = record {
-  change_admits_next = λ a b c. ap pair_admits c;
-  change_keeps_notes = λ a b c. ap (λ t. pair_admits (settled t)) c;
-  refused_note = λ a b n r h.
-      ap (λ t. pair_admits (settled t)) (h.1 ∙ noted_not same_pair (noted_pair n) (noted_pair n) pair_places (pair_range (noted_pair n)) (pair_tables a) n.admitted r (sym h.0));
-}
 
 pub pair_notes : PairNotes
 pair_notes = record {
@@ -68,14 +60,6 @@ module _ (a b : MakerList) (n : MakerNote) (e : Eui64) (u : ℕ) where
   of_another r h other =
       let away = noted_elsewhere is_of n.maker n (maker_of e) (maker_apart n.maker (maker_of e) other) (ne_eqb n.maker (maker_of e) other) maker_places (maker_range n) (maker_tables a) (puts_in n) in
       ap (λ t. maker_admits (settled t) e u) h.1 ∙ ap (λ o. not (none_eui e) && in_mask (units_of o) u) away
-
-pub makers_follow : Follows maker_model maker_next
-makers_follow = record {
-  change_admits_next = λ a b c. ap maker_admits c;
-  change_keeps_notes = λ a b c. ap (λ t. maker_admits (settled t)) c;
-  refused_note = λ a b n r h.
-      ap (λ t. maker_admits (settled t)) (h.1 ∙ noted_not is_of n.maker n maker_places (maker_range n) (maker_tables a) (puts_in n) r (sym h.0));
-}
 
 pub maker_notes : MakerNotes
 maker_notes = record {
