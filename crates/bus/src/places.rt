@@ -11,7 +11,8 @@ use reader::refusal::Refusal;
 
 const FIRST: u16 = 0xFFC0;
 
-/// Who is at FFC0h, FFC1h and so on; all ones is nobody, and no one else is at two places.
+/// Who is at FFC0h, FFC1h and so on; all ones is nobody, as in a note and on the wire, and no one
+/// else is at two places.
 #[derive(Clone, Copy)]
 pub struct Places {
     euis: [Eui64; 63],

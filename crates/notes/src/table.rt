@@ -8,6 +8,7 @@ use crate::slots::Table;
 use reader::refusal::Refusal;
 
 impl<E: Keyed + Copy, const N: usize> Table<E, N> {
+    /// The places hold `free` as long as they are free.
     pub fn empty(free: E) -> Table<E, N>
         ensures { held result ≡ [] }
     {
