@@ -1,21 +1,19 @@
 -- The first topology of a portal on a new local bus. Assumes nothing.
-use Rattle.std.proofs.Common.{◌≡◌, ℕ, ◌-◌, ◌<◌, Bool, true, false, cond, List, [], length, set, replicate, Some, None, Err, Option, refl, ap, ◌∙◌, arith}
+use Rattle.std.proofs.Common.{◌≡◌, Bool, true, false, cond, List, [], length, replicate, Some, None, Option, refl, ap, ◌∙◌, arith}
 use Rattle.std.proofs.lemmas.Bool.Decides.{when_false}
-use Rattle.std.proofs.lemmas.List.{get_or-set_same}
+use Rattle.std.proofs.lemmas.Grind.{common_steps}
 use Rattle.reader.specs.declared.ids.NodeId.{NodeId}
 use Rattle.reader.specs.declared.ids.Eui64.{Eui64}
-use Rattle.reader.specs.declared.refusal.Refusal.TheVariants.{OutOfRange}
 use Rattle.reader.specs.Ids.{local, global}
 use Rattle.bus.specs.declared.local.LocalBus.{LocalBus}
 use Rattle.bus.specs.declared.portal.Portal.{Portal}
-use Rattle.bus.specs.Meaning.{granted, nobody, somebody, if_granted}
+use Rattle.bus.specs.Meaning.{granted, nobody, somebody}
 use Rattle.bus.specs.Finding.{first_from, local_of}
-use Rattle.bus.specs.Places.{seated, unless_elsewhere, seat_answer, seat_after}
+use Rattle.bus.specs.Places.{seated, seat_answer, seat_after}
 use Rattle.bus.specs.LocalBuses.{local_model, local_tables, new_local}
 use Rattle.bus.specs.GlobalTables.{listed}
 use Rattle.bus.specs.Portals.{or_else, portal_tables, new_portal, portal_model}
 use Rattle.bus_laws.specs.Topologies.{ShownAfterReset}
-use Rattle.bus.specs.Seating.{local_place}
 use Rattle.bus.specs.LocalBusesLemmas.{seated_elsewhere, local_lawful}
 use Rattle.bus.specs.PortalsLemmas.{local_not_global, as_below, unseen}
 
@@ -27,21 +25,9 @@ nobody_seated e = refl
 seat_free : (euis : List Eui64) (i : NodeId) (e : Eui64) → local i ≡ true → local_of (seated euis) e ≡ None → seat_answer euis i e ≡ granted
 seat_free euis i e here free = cc
 
-module _ (euis : List Eui64) (i : NodeId) (e : Eui64) where
-  granted_local : seat_answer euis i e ≡ granted → local i ≡ true
-  granted_local h = go (local i) h
-    where
-      go : (b : Bool) → cond b (unless_elsewhere i (local_of (seated euis) e)) (Err (OutOfRange i.0)) ≡ granted → b ≡ true
-      go true h = refl
-      go false h = let z : ◌≡◌ {A = ℕ} 0 1 = cc in absurd (omega arith)
-
-  seated_there : length euis ≡ 63 → seat_answer euis i e ≡ granted → seated (seat_after euis i e) i ≡ somebody e
-  seated_there size h =
-      let here = granted_local h in
-      let within : i.0 - 0xFFC0 < length euis = omega (arith, (local_place i here).1) in
-      let sits : seat_after euis i e ≡ set euis (i.0 - 0xFFC0) e = ap (λ a. if_granted a (set euis (i.0 - 0xFFC0) e) euis) h in
-      let there = get_or-set_same euis (i.0 - 0xFFC0) e nobody within in
-      cc
+-- one who may sit down sits there
+seated_there : (euis : List Eui64) (i : NodeId) (e : Eui64) → length euis ≡ 63 → seat_answer euis i e ≡ granted → seated (seat_after euis i e) i ≡ somebody e
+seated_there euis i e size h = grind (arith, common_steps)
 
 module _ {own eui : Eui64} {i : NodeId} {who : Option Eui64} (p q : Portal LocalBus) (new : portal_tables p ≡ new_portal) (below : local_tables p.below ≡ new_local own)
     (s : ShownAfterReset (portal_model local_model) p i (Some eui) who q) where
