@@ -1,6 +1,5 @@
 pub mod Meaning
 pub mod Tables
-pub mod Held
 pub mod Pairs
 pub mod Makers
 pub mod Stops

@@ -3,19 +3,20 @@ use Rattle.std.specs.Prelude.{◌≡◌, ℕ, ◌/◌, ◌%◌, ◌^◌, Bool, c
 use Rattle.reader.specs.declared.ids.Eui64.{Eui64}
 use Rattle.reader.specs.declared.refusal.Refusal.TheVariants.{OutOfRange}
 use Rattle.reader.specs.Ids.{none_eui}
-use Rattle.bus.specs.Meaning.{Answer, granted}
+use Rattle.notes.specs.Answers.{Answer, granted}
+use Rattle.notes.specs.Held.{noting}
 use Rattle.access.specs.declared.makers.MakerNote.{MakerNote}
 use Rattle.access.specs.declared.makers.MakerList.{MakerList}
 use Rattle.access.specs.Meaning.{AccessModel}
 use Rattle.access.specs.Tables.{Noting, listed, new_tables, settled, note_answer, noted_in}
-use Rattle.access.specs.Held.{held}
 
 -- how many makers there may be
 abbrev pub maker_places : ℕ
 maker_places = 16
 
-abbrev pub same_maker : MakerNote → MakerNote → Bool
-same_maker m n = m.maker == n.maker
+-- whether an entry is of a maker
+abbrev pub is_of : MakerNote → ℕ → Bool
+is_of n maker = n.maker == maker
 
 -- a maker has 24 bits, and a mask of units 4
 abbrev pub maker_range : MakerNote → Answer
@@ -39,7 +40,7 @@ abbrev pub in_mask : ℕ → ℕ → Bool
 in_mask mask u = nat_le u 3 && mask / 2 ^ u % 2 == 1
 
 abbrev pub maker_tables : MakerList → Noting MakerNote
-maker_tables a = record { current = held a.current; noted = held a.noted }
+maker_tables a = noting a.admitted
 
 -- a new one admits nobody, and has no maker noted
 abbrev pub new_makers : Noting MakerNote
@@ -49,14 +50,14 @@ abbrev pub maker_settled : Noting MakerNote → Noting MakerNote
 maker_settled t = settled t
 
 abbrev pub maker_answer : Noting MakerNote → MakerNote → Answer
-maker_answer t n = note_answer same_maker maker_places (maker_range n) t n (puts_in n)
+maker_answer t n = note_answer is_of maker_places (maker_range n) t n.maker (puts_in n)
 
 abbrev pub maker_noted : Noting MakerNote → MakerNote → Noting MakerNote
-maker_noted t n = noted_in same_maker maker_places (maker_range n) t n (puts_in n)
+maker_noted t n = noted_in is_of maker_places (maker_range n) t n.maker n (puts_in n)
 
 -- it admits whom its maker's entry that holds now gives the unit; all ones is nobody, of whatever maker
 abbrev pub maker_admits : Noting MakerNote → Eui64 → ℕ → Bool
-maker_admits t e u = not (none_eui e) && in_mask (units_of (listed same_maker t.current (record { maker = maker_of e; units = 0 }))) u
+maker_admits t e u = not (none_eui e) && in_mask (units_of (listed is_of t.current (maker_of e))) u
 
 abbrev pub maker_model : AccessModel MakerList MakerNote
 maker_model = record {

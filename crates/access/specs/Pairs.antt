@@ -3,13 +3,13 @@ use Rattle.std.specs.Prelude.{◌≡◌, ℕ, Bool, cond, ◌&&◌, is_some, Err
 use Rattle.reader.specs.declared.ids.Eui64.{Eui64}
 use Rattle.reader.specs.declared.refusal.Refusal.TheVariants.{OutOfRange}
 use Rattle.reader.specs.Ids.{none_eui}
-use Rattle.bus.specs.Meaning.{Answer, granted}
+use Rattle.notes.specs.Answers.{Answer, granted}
+use Rattle.notes.specs.Held.{noting}
 use Rattle.access.specs.declared.pairs.Pair.{Pair}
 use Rattle.access.specs.declared.pairs.PairNote.{PairNote}
 use Rattle.access.specs.declared.pairs.PairTable.{PairTable}
 use Rattle.access.specs.Meaning.{AccessModel}
 use Rattle.access.specs.Tables.{Noting, listed, new_tables, settled, note_answer, noted_in}
-use Rattle.access.specs.Held.{held}
 
 -- how many pairs there may be
 abbrev pub pair_places : ℕ
@@ -27,7 +27,7 @@ abbrev pub noted_pair : PairNote → Pair
 noted_pair n = record { eui = n.eui_64; unit = n.unit }
 
 abbrev pub pair_tables : PairTable → Noting Pair
-pair_tables a = record { current = held a.current; noted = held a.noted }
+pair_tables a = noting a.admitted
 
 -- a new one admits nobody, and has no pair noted
 abbrev pub new_pairs : Noting Pair
@@ -40,7 +40,7 @@ abbrev pub pair_answer : Noting Pair → PairNote → Answer
 pair_answer t n = note_answer same_pair pair_places (pair_range (noted_pair n)) t (noted_pair n) n.admitted
 
 abbrev pub pair_noted : Noting Pair → PairNote → Noting Pair
-pair_noted t n = noted_in same_pair pair_places (pair_range (noted_pair n)) t (noted_pair n) n.admitted
+pair_noted t n = noted_in same_pair pair_places (pair_range (noted_pair n)) t (noted_pair n) (noted_pair n) n.admitted
 
 -- it admits the pairs that hold now
 abbrev pub pair_admits : Noting Pair → Eui64 → ℕ → Bool

@@ -3,13 +3,13 @@ use Rattle.std.specs.Prelude.{◌≡◌, ℕ, Bool, cond, not, ◌&&◌, is_some
 use Rattle.reader.specs.declared.ids.Eui64.{Eui64}
 use Rattle.reader.specs.declared.refusal.Refusal.TheVariants.{OutOfRange}
 use Rattle.reader.specs.Ids.{none_eui}
-use Rattle.bus.specs.Meaning.{Answer, granted}
+use Rattle.notes.specs.Answers.{Answer, granted}
+use Rattle.notes.specs.Held.{noting}
 use Rattle.access.specs.declared.stops.StopList.{StopList}
 use Rattle.access.specs.declared.stops.StopNote.{StopNote}
 use Rattle.access.specs.declared.stops.StopNote.TheVariants.{Stop, Below}
 use Rattle.access.specs.Meaning.{AccessModel}
 use Rattle.access.specs.Tables.{Noting, listed, new_tables, settled, note_answer, noted_in}
-use Rattle.access.specs.Held.{held}
 
 -- how many EUI-64s there may be
 abbrev pub stop_places : ℕ
@@ -23,7 +23,7 @@ abbrev pub stop_range : Eui64 → Answer
 stop_range e = cond (none_eui e) (Err (OutOfRange e.0)) granted
 
 abbrev pub stop_tables : {A : Type 0} → StopList A → Noting Eui64
-stop_tables a = record { current = held a.current; noted = held a.noted }
+stop_tables a = noting a.stopped
 
 -- a new one stops nobody, and has nobody noted
 abbrev pub new_stops : Noting Eui64
@@ -36,7 +36,7 @@ abbrev pub stop_answer : Noting Eui64 → Eui64 → Bool → Answer
 stop_answer t e stopped = note_answer same_eui stop_places (stop_range e) t e stopped
 
 abbrev pub stop_noted : Noting Eui64 → Eui64 → Bool → Noting Eui64
-stop_noted t e stopped = noted_in same_eui stop_places (stop_range e) t e stopped
+stop_noted t e stopped = noted_in same_eui stop_places (stop_range e) t e e stopped
 
 abbrev pub is_stopped : Noting Eui64 → Eui64 → Bool
 is_stopped t e = is_some (listed same_eui t.current e)

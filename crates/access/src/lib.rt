@@ -6,9 +6,7 @@ ghost use Rattle.access.specs.Meaning.{AccessModel, Lawful};
 
 pub mod makers;
 pub mod pairs;
-mod slots;
 pub mod stops;
-mod table;
 
 use reader::ids::Eui64;
 use reader::refusal::Refusal;

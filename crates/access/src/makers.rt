@@ -1,10 +1,13 @@
 // A list of makers, whose stations are admitted to the units of a mask.
 ghost use Rattle.std.specs.Prelude.{◌≡◌};
-ghost use Rattle.access.specs.Makers.{same_maker, maker_range, maker_of, in_mask, maker_tables, new_makers, maker_model};
+ghost use Rattle.access.specs.Makers.{maker_range, maker_of, in_mask, maker_tables, new_makers, maker_model};
 ghost use Rattle.std.proofs.Common.{rules};
 
-use crate::slots::{Keyed, Table};
 use crate::{Access, LAST_UNIT};
+use notes::in_range;
+use notes::keyed::Keyed;
+use notes::noting::Notes;
+use notes::slots::Table;
 use reader::ids::Eui64;
 use reader::refusal::Refusal;
 
@@ -25,15 +28,16 @@ pub struct MakerNote {
 /// The makers that are admitted, and those noted for the next access change.
 #[derive(Clone, Copy)]
 pub struct MakerList {
-    current: Table<MakerNote, SIZE>,
-    noted: Table<MakerNote, SIZE>,
+    admitted: Notes<Table<MakerNote, SIZE>>,
 }
 
 impl Keyed for MakerNote {
-    ghost alike = { same_maker };
+    type Key = u32;
 
-    fn is_alike(&self, other: &MakerNote) -> bool {
-        self.maker == other.maker
+    ghost key = { λ n. n.maker };
+
+    fn key(&self) -> u32 {
+        self.maker
     }
 }
 
@@ -41,13 +45,9 @@ impl MakerNote {
     fn in_range(self) -> Result<(), Refusal>
         ensures { result ≡ maker_range self }
     {
-        if self.maker > LAST_MAKER {
-            return Err(Refusal::OutOfRange(u64::from(self.maker)));
-        }
-        if self.units > ALL_UNITS {
-            return Err(Refusal::OutOfRange(u64::from(self.units)));
-        }
-        Ok(())
+        let MakerNote { maker, units } = self;
+        in_range(maker <= LAST_MAKER, u64::from(maker))?;
+        in_range(units <= ALL_UNITS, u64::from(units))
     }
 }
 
@@ -69,8 +69,7 @@ impl MakerList {
     {
         let free = MakerNote { maker: 0, units: 0 };
         MakerList {
-            current: Table::empty(free),
-            noted: Table::empty(free),
+            admitted: Notes::new(Table::empty(free)),
         }
     }
 }
@@ -83,25 +82,16 @@ impl Access for MakerList {
     ghost lawful = { Prim.search rules };
 
     fn admits(&self, eui: Eui64, unit: u16) -> bool {
-        if eui.is_none() {
-            return false;
-        }
-        let of_maker = MakerNote {
-            maker: maker_of(eui),
-            units: 0,
-        };
-        match self.current.find(of_maker) {
-            Some(entry) => in_mask(entry.units, unit),
-            None => false,
-        }
+        let entry = self.admitted.find(maker_of(eui));
+        !eui.is_none() && entry.is_some_and(|n| in_mask(n.units, unit))
     }
 
     fn change(&mut self) {
-        self.current = self.noted;
+        self.admitted.settle();
     }
 
     fn note(&mut self, note: MakerNote) -> Result<(), Refusal> {
         note.in_range()?;
-        self.noted.note(note, note.units != 0)
+        self.admitted.note(note, note.units != 0)
     }
 }

@@ -1,10 +1,13 @@
 // A list of the very pairs of EUI-64 and unit that are admitted.
 ghost use Rattle.std.specs.Prelude.{◌≡◌};
-ghost use Rattle.access.specs.Pairs.{same_pair, pair_range, pair_tables, new_pairs, pair_model};
+ghost use Rattle.access.specs.Pairs.{pair_range, pair_tables, new_pairs, pair_model};
 ghost use Rattle.std.proofs.Common.{rules};
 
-use crate::slots::{Keyed, Table};
 use crate::{Access, LAST_UNIT};
+use notes::in_range;
+use notes::keyed::Keyed;
+use notes::noting::Notes;
+use notes::slots::Table;
 use reader::ids::Eui64;
 use reader::refusal::Refusal;
 
@@ -18,7 +21,7 @@ pub struct PairNote {
     pub admitted: bool,
 }
 
-#[derive(Clone, Copy)]
+#[derive(Clone, Copy, PartialEq, Eq)]
 pub struct Pair {
     eui: Eui64,
     unit: u16,
@@ -27,15 +30,16 @@ pub struct Pair {
 /// The pairs that are admitted, and those noted for the next access change.
 #[derive(Clone, Copy)]
 pub struct PairTable {
-    current: Table<Pair, SIZE>,
-    noted: Table<Pair, SIZE>,
+    admitted: Notes<Table<Pair, SIZE>>,
 }
 
 impl Keyed for Pair {
-    ghost alike = { same_pair };
+    type Key = Pair;
 
-    fn is_alike(&self, other: &Pair) -> bool {
-        self.eui == other.eui && self.unit == other.unit
+    ghost key = { λ p. p };
+
+    fn key(&self) -> Pair {
+        *self
     }
 }
 
@@ -43,13 +47,8 @@ impl Pair {
     fn in_range(self) -> Result<(), Refusal>
         ensures { result ≡ pair_range self }
     {
-        if self.eui.is_none() {
-            return Err(Refusal::OutOfRange(self.eui.0));
-        }
-        if self.unit > LAST_UNIT {
-            return Err(Refusal::OutOfRange(u64::from(self.unit)));
-        }
-        Ok(())
+        in_range(!self.eui.is_none(), self.eui.0)?;
+        in_range(self.unit <= LAST_UNIT, u64::from(self.unit))
     }
 }
 
@@ -62,8 +61,7 @@ impl PairTable {
             unit: 0,
         };
         PairTable {
-            current: Table::empty(free),
-            noted: Table::empty(free),
+            admitted: Notes::new(Table::empty(free)),
         }
     }
 }
@@ -76,11 +74,11 @@ impl Access for PairTable {
     ghost lawful = { Prim.search rules };
 
     fn admits(&self, eui: Eui64, unit: u16) -> bool {
-        self.current.find(Pair { eui, unit }).is_some()
+        self.admitted.find(Pair { eui, unit }).is_some()
     }
 
     fn change(&mut self) {
-        self.current = self.noted;
+        self.admitted.settle();
     }
 
     fn note(&mut self, note: PairNote) -> Result<(), Refusal> {
@@ -89,6 +87,6 @@ impl Access for PairTable {
             unit: note.unit,
         };
         pair.in_range()?;
-        self.noted.note(pair, note.admitted)
+        self.admitted.note(pair, note.admitted)
     }
 }

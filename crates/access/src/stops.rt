@@ -1,10 +1,12 @@
 // A layer over any access list, which takes EUI-64s out of all units of the list below.
 ghost use Rattle.std.specs.Prelude.{◌≡◌};
-ghost use Rattle.access.specs.Stops.{same_eui, stop_range, stop_tables, new_stops, stop_model};
+ghost use Rattle.access.specs.Stops.{stop_tables, new_stops, stop_model};
 ghost use Rattle.std.proofs.Common.{rules};
 
 use crate::Access;
-use crate::slots::{Keyed, Table};
+use notes::in_range;
+use notes::noting::Notes;
+use notes::slots::Table;
 use reader::ids::Eui64;
 use reader::refusal::Refusal;
 
@@ -21,25 +23,7 @@ pub enum StopNote<N> {
 #[derive(Drop)]
 pub struct StopList<A> {
     below: A,
-    current: Table<Eui64, SIZE>,
-    noted: Table<Eui64, SIZE>,
-}
-
-impl Keyed for Eui64 {
-    ghost alike = { same_eui };
-
-    fn is_alike(&self, other: &Eui64) -> bool {
-        *self == *other
-    }
-}
-
-fn in_range(eui: Eui64) -> Result<(), Refusal>
-    ensures { result ≡ stop_range eui }
-{
-    if eui.is_none() {
-        return Err(Refusal::OutOfRange(eui.0));
-    }
-    Ok(())
+    stopped: Notes<Table<Eui64, SIZE>>,
 }
 
 impl<A: Access> StopList<A> {
@@ -49,8 +33,7 @@ impl<A: Access> StopList<A> {
     {
         StopList {
             below,
-            current: Table::empty(Eui64::NONE),
-            noted: Table::empty(Eui64::NONE),
+            stopped: Notes::new(Table::empty(Eui64::NONE)),
         }
     }
 }
@@ -63,19 +46,19 @@ impl<A: Access> Access for StopList<A> {
     ghost lawful = { Prim.search rules };
 
     fn admits(&self, eui: Eui64, unit: u16) -> bool {
-        self.current.find(eui).is_none() && self.below.admits(eui, unit)
+        self.stopped.find(eui).is_none() && self.below.admits(eui, unit)
     }
 
     fn change(&mut self) {
         self.below.change();
-        self.current = self.noted;
+        self.stopped.settle();
     }
 
     fn note(&mut self, note: StopNote<A::Note>) -> Result<(), Refusal> {
         match note {
             StopNote::Stop { eui_64, stopped } => {
-                in_range(eui_64)?;
-                self.noted.note(eui_64, stopped)
+                in_range(!eui_64.is_none(), eui_64.0)?;
+                self.stopped.note(eui_64, stopped)
             }
             StopNote::Below(below) => self.below.note(below),
         }

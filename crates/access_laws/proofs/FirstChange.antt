@@ -3,7 +3,7 @@ use Rattle.std.proofs.Common.{◌≡◌, ℕ, Bool, true, not, ◌&&◌, leb, ap
 use Rattle.std.proofs.lemmas.Bool.Decides.{nat_tests}
 use Rattle.reader.specs.declared.ids.Eui64.{Eui64}
 use Rattle.reader.specs.Ids.{none_eui}
-use Rattle.bus.specs.Meaning.{Answer}
+use Rattle.notes.specs.Answers.{Answer}
 use Rattle.access.specs.declared.pairs.PairNote.{PairNote}
 use Rattle.access.specs.declared.pairs.PairTable.{PairTable}
 use Rattle.access.specs.declared.stops.StopList.{StopList}

@@ -1,4 +1,3 @@
 pub mod FirstChange
-pub mod Tables
 pub mod ListFollows
 pub mod StopFollows

@@ -1,18 +1,18 @@
 -- The notes of a pair table and of a maker list are their next sets. Assumes nothing.
-use Rattle.std.proofs.Common.{◌≡◌, ℕ, Bool, true, false, cond, not, ◌&&◌, eqb, is_some, Some, None, sym, refl, ap, ◌∙◌, arith}
+use Rattle.std.proofs.Common.{◌≡◌, ℕ, Bool, true, false, cond, not, ◌&&◌, is_some, Some, None, sym, refl, ap, ◌∙◌, arith}
 use Rattle.std.proofs.lemmas.Bool.{ne_eqb}
 use Rattle.std.proofs.lemmas.Bool.Decides.{nat_tests}
 use Rattle.reader.specs.declared.ids.Eui64.{Eui64}
 use Rattle.reader.specs.Ids.{none_eui}
-use Rattle.bus.specs.Meaning.{Answer, granted}
+use Rattle.notes.specs.Answers.{Answer, granted}
 use Rattle.access.specs.declared.pairs.Pair.{Pair}
 use Rattle.access.specs.declared.makers.MakerNote.{MakerNote}
 use Rattle.access.specs.declared.makers.MakerList.{MakerList}
-use Rattle.access.specs.Tables.{listed, settled}
-use Rattle.access.specs.Pairs.{pair_places, same_pair, pair_range, noted_pair, pair_tables, pair_admits, pair_model}
-use Rattle.access.specs.Makers.{maker_places, same_maker, maker_range, puts_in, maker_of, units_of, in_mask, maker_tables, maker_admits, maker_model}
-use Rattle.access_laws.specs.Following.{Follows, PairNotes, pair_next, MakerNotes, maker_next}
-use Rattle.access_laws.proofs.Tables.{listed_like, noted_there, noted_elsewhere, noted_not}
+use Rattle.notes.specs.Tables.{listed, settled}
+use Rattle.notes.specs.TablesLemmas.{noted_there, noted_elsewhere}
+use Rattle.access.specs.Pairs.{pair_places, same_pair, pair_range, noted_pair, pair_tables}
+use Rattle.access.specs.Makers.{maker_places, is_of, maker_range, puts_in, maker_of, units_of, in_mask, maker_tables, maker_admits, maker_model}
+use Rattle.access_laws.specs.Following.{PairNotes, MakerNotes, maker_next}
 
 pub some_or_none : {X : Type 0} (x : X) (b : Bool) → is_some (cond b (Some x) None) ≡ b
 some_or_none x true = refl
@@ -21,66 +21,45 @@ some_or_none x false = refl
 pair_self : (p : Pair) → same_pair p p ≡ true
 pair_self p = grind (arith, nat_tests)
 
-pair_keys : (p q x : Pair) → same_pair x p ≡ true → same_pair x q ≡ true → same_pair p q ≡ true
-pair_keys p q x h k = grind (arith, nat_tests)
-
-pub pairs_follow : Follows pair_model pair_next
-pairs_follow = record {
-  change_admits_next = λ a b c. ap pair_admits c;
-  change_keeps_notes = λ a b c. ap (λ t. pair_admits (settled t)) c;
-  refused_note = λ a b n r h.
-      ap (λ t. pair_admits (settled t)) (h.1 ∙ noted_not same_pair (noted_pair n) pair_places (pair_range (noted_pair n)) (pair_tables a) n.admitted r (sym h.0));
-}
+pair_apart : (p q : Pair) → same_pair p q ≡ false → (x : Pair) → same_pair x p ≡ true → same_pair x q ≡ false
+pair_apart p q other x h = grind (arith, nat_tests)
 
 pub pair_notes : PairNotes
 pair_notes = record {
   note_of_pair = λ a b n h.
       ap (λ t. is_some (listed same_pair t.noted (noted_pair n))) h.1
-      ∙ ap is_some (noted_there same_pair (noted_pair n) (pair_self (noted_pair n)) pair_places (pair_range (noted_pair n)) (pair_tables a) n.admitted (sym h.0))
+      ∙ ap is_some (noted_there same_pair (noted_pair n) (noted_pair n) pair_places (pair_self (noted_pair n)) (pair_range (noted_pair n)) (pair_tables a) n.admitted (sym h.0))
       ∙ some_or_none (noted_pair n) n.admitted;
   note_of_another = λ a b n r h e u other.
       let q : Pair = record { eui = e; unit = u } in
       ap (λ t. is_some (listed same_pair t.noted q)) h.1
-      ∙ ap is_some (noted_elsewhere same_pair (noted_pair n) q (pair_keys (noted_pair n) q) other pair_places (pair_range (noted_pair n)) (pair_tables a) n.admitted);
+      ∙ ap is_some (noted_elsewhere same_pair (noted_pair n) (noted_pair n) q (pair_apart (noted_pair n) q other) other pair_places (pair_range (noted_pair n)) (pair_tables a) n.admitted);
 }
 
-maker_self : (n : MakerNote) → same_maker n n ≡ true
+maker_self : (n : MakerNote) → is_of n n.maker ≡ true
 maker_self n = grind (arith, nat_tests)
 
-maker_keys : (m n x : MakerNote) → same_maker x m ≡ true → same_maker x n ≡ true → same_maker m n ≡ true
-maker_keys m n x h k = grind (arith, nat_tests)
+maker_apart : (m k : ℕ) → (m ≡ k → ⊥) → (x : MakerNote) → is_of x m ≡ true → is_of x k ≡ false
+maker_apart m k other x h = grind (arith, nat_tests)
 
 -- a mask of no unit is that of no entry
 units_kept : (n : MakerNote) (b : Bool) → puts_in n ≡ b → units_of (cond b (Some n) None) ≡ n.units
 units_kept n true h = refl
 units_kept n false h = grind (arith, nat_tests)
 
--- what is asked for an EUI-64
-abbrev asked : Eui64 → MakerNote
-asked e = record { maker = maker_of e; units = 0 }
-
 module _ (a b : MakerList) (n : MakerNote) (e : Eui64) (u : ℕ) where
   of_maker : maker_model.Notes a n granted b → n.maker ≡ maker_of e → none_eui e ≡ false → maker_next b e u ≡ in_mask n.units u
   of_maker h same real =
-      let there = noted_there same_maker n (maker_self n) maker_places (maker_range n) (maker_tables a) (puts_in n) (sym h.0) in
-      let like = listed_like same_maker (asked e) n (λ x. ap (λ k. eqb x.maker k) (sym same)) (maker_tables b).noted in
-      let now_listed = like ∙ ap (λ t. listed same_maker t.noted n) h.1 ∙ there in
-      ap (λ c. not c && in_mask (units_of (listed same_maker (maker_tables b).noted (asked e))) u) real
+      let there = noted_there is_of n.maker n maker_places (maker_self n) (maker_range n) (maker_tables a) (puts_in n) (sym h.0) in
+      let now_listed = ap (λ k. listed is_of (maker_tables b).noted k) (sym same) ∙ ap (λ t. listed is_of t.noted n.maker) h.1 ∙ there in
+      ap (λ c. not c && in_mask (units_of (listed is_of (maker_tables b).noted (maker_of e))) u) real
       ∙ ap (λ o. in_mask (units_of o) u) now_listed
       ∙ ap (λ k. in_mask k u) (units_kept n (puts_in n) refl)
 
   of_another : (r : Answer) → maker_model.Notes a n r b → (n.maker ≡ maker_of e → ⊥) → maker_next b e u ≡ maker_next a e u
   of_another r h other =
-      let away = noted_elsewhere same_maker n (asked e) (maker_keys n (asked e)) (ne_eqb n.maker (maker_of e) other) maker_places (maker_range n) (maker_tables a) (puts_in n) in
+      let away = noted_elsewhere is_of n.maker n (maker_of e) (maker_apart n.maker (maker_of e) other) (ne_eqb n.maker (maker_of e) other) maker_places (maker_range n) (maker_tables a) (puts_in n) in
       ap (λ t. maker_admits (settled t) e u) h.1 ∙ ap (λ o. not (none_eui e) && in_mask (units_of o) u) away
-
-pub makers_follow : Follows maker_model maker_next
-makers_follow = record {
-  change_admits_next = λ a b c. ap maker_admits c;
-  change_keeps_notes = λ a b c. ap (λ t. maker_admits (settled t)) c;
-  refused_note = λ a b n r h.
-      ap (λ t. maker_admits (settled t)) (h.1 ∙ noted_not same_maker n maker_places (maker_range n) (maker_tables a) (puts_in n) r (sym h.0));
-}
 
 pub maker_notes : MakerNotes
 maker_notes = record {

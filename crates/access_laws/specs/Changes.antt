@@ -2,7 +2,7 @@
 use Rattle.std.specs.Prelude.{◌≡◌, ℕ, Bool, not, ◌&&◌, nat_le}
 use Rattle.reader.specs.declared.ids.Eui64.{Eui64}
 use Rattle.reader.specs.Ids.{none_eui}
-use Rattle.bus.specs.Meaning.{Answer}
+use Rattle.notes.specs.Answers.{Answer}
 use Rattle.access.specs.declared.pairs.PairNote.{PairNote}
 use Rattle.access.specs.Meaning.{AccessModel}
 use Rattle.access.specs.Pairs.{same_pair, noted_pair}

@@ -3,7 +3,7 @@ use Rattle.std.specs.Prelude.{◌≡◌, ℕ, Bool, false, not, ◌&&◌, Err, �
 use Rattle.reader.specs.declared.ids.Eui64.{Eui64}
 use Rattle.reader.specs.declared.refusal.Refusal.{Refusal}
 use Rattle.reader.specs.Ids.{none_eui}
-use Rattle.bus.specs.Meaning.{Answer, granted}
+use Rattle.notes.specs.Answers.{Answer, granted}
 use Rattle.access.specs.declared.pairs.PairNote.{PairNote}
 use Rattle.access.specs.declared.pairs.PairTable.{PairTable}
 use Rattle.access.specs.declared.makers.MakerNote.{MakerNote}
@@ -11,7 +11,7 @@ use Rattle.access.specs.declared.makers.MakerList.{MakerList}
 use Rattle.access.specs.declared.stops.StopList.{StopList}
 use Rattle.access.specs.declared.stops.StopNote.TheVariants.{Stop, Below}
 use Rattle.access.specs.Meaning.{AccessModel}
-use Rattle.access.specs.Tables.{settled}
+use Rattle.notes.specs.Tables.{settled}
 use Rattle.access.specs.Pairs.{same_pair, noted_pair, pair_tables, pair_admits, pair_model}
 use Rattle.access.specs.Makers.{maker_of, in_mask, maker_tables, maker_admits, maker_model}
 use Rattle.access.specs.Stops.{same_eui, stop_tables, stop_admits, stop_model}

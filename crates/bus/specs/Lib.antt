@@ -4,7 +4,6 @@ pub mod Harnesses
 pub mod Places
 pub mod LocalBuses
 pub mod GlobalTables
-pub mod Entries
 pub mod Portals
 pub mod LocalBusesLemmas
 pub mod FindingLemmas

@@ -15,7 +15,7 @@ pub record LocalTables : Type 0 where
   pub noted : List Eui64
 
 abbrev pub local_tables : LocalBus → LocalTables
-local_tables b = record { eui = b.eui; shown = b.shown.euis; noted = b.noted.euis }
+local_tables b = record { eui = b.eui; shown = b.places.current.euis; noted = b.places.noted.euis }
 
 -- a new one shows nobody, and has nobody noted
 abbrev pub new_local : Eui64 → LocalTables
@@ -39,7 +39,7 @@ local_noted t i e = record { eui = t.eui; shown = t.shown; noted = seat_after t.
 abbrev pub local_model : BusModel LocalBus
 local_model = record {
   own = λ b. local_own (local_tables b);
-  shows = λ b. seated b.shown.euis;
+  shows = λ b. seated b.places.current.euis;
   Resets = λ b c. local_tables c ≡ local_settled (local_tables b);
   Updates = λ b c. local_tables c ≡ local_settled (local_tables b);
   Notes = λ b i e a c. (a ≡ local_answer (local_tables b) i e) × (local_tables c ≡ local_noted (local_tables b) i e);

@@ -32,14 +32,14 @@ global_not_local i h = grind (arith, nat_tests)
 
 pub local_lawful : Lawful local_model
 local_lawful = record {
-  own_is_local_or_none = λ b. found_or_none (seated b.shown.euis) b.eui (local_of (seated b.shown.euis) b.eui) (local_of_finds (seated b.shown.euis) b.eui);
-  none_shows_nobody = λ b i h. seated_elsewhere b.shown.euis i (none_not_local i h);
-  broadcast_shows_nobody = λ b i h. seated_elsewhere b.shown.euis i (broadcast_not_local i h);
-  all_ones_is_not_shown = λ b i e h. (seated_some b.shown.euis i e h).1;
-  local_ids_show_apart = λ b i j e f g. seated_apart b.shown.euis b.shown.apart e i j f g;
+  own_is_local_or_none = λ b. found_or_none (seated b.places.current.euis) b.eui (local_of (seated b.places.current.euis) b.eui) (local_of_finds (seated b.places.current.euis) b.eui);
+  none_shows_nobody = λ b i h. seated_elsewhere b.places.current.euis i (none_not_local i h);
+  broadcast_shows_nobody = λ b i h. seated_elsewhere b.places.current.euis i (broadcast_not_local i h);
+  all_ones_is_not_shown = λ b i e h. (seated_some b.places.current.euis i e h).1;
+  local_ids_show_apart = λ b i j e f g. seated_apart b.places.current.euis b.places.current.apart e i j f g;
   reset_keeps_globals = λ b c r i h.
-      let p = seated_elsewhere b.shown.euis i (global_not_local i h) in
-      let q = seated_elsewhere c.shown.euis i (global_not_local i h) in
+      let p = seated_elsewhere b.places.current.euis i (global_not_local i h) in
+      let q = seated_elsewhere c.places.current.euis i (global_not_local i h) in
       cc;
   note_keeps_own = λ b c i e a n. cc;
   note_keeps_shown = λ b c i e a n. ap (λ t. seated t.shown) n.1;

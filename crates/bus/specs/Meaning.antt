@@ -1,9 +1,9 @@
 -- What a bus means, what its events make of it, and what every bus owes. Assumes nothing.
-use Rattle.std.specs.Prelude.{◌≡◌, true, false, cond, ◌||◌, Some, None, Ok, Err, Option, Result}
+use Rattle.std.specs.Prelude.{◌≡◌, true, false, cond, ◌||◌, Some, None, Option}
 use Rattle.reader.specs.declared.ids.NodeId.{NodeId}
 use Rattle.reader.specs.declared.ids.Eui64.{Eui64}
-use Rattle.reader.specs.declared.refusal.Refusal.{Refusal}
 use Rattle.reader.specs.Ids.{none_id, local, broadcast, global, none_eui}
+pub use Rattle.notes.specs.Answers.{Answer, granted, if_granted}
 
 -- an EUI-64 of all ones is nobody
 abbrev pub nobody : Eui64
@@ -11,18 +11,6 @@ nobody = record { 0 = 0xFFFF_FFFF_FFFF_FFFF }
 
 abbrev pub somebody : Eui64 → Option Eui64
 somebody e = cond (none_eui e) None (Some e)
-
--- what a note is answered
-abbrev pub Answer : Type 0
-Answer = Result (Unit {0}) Refusal
-
-abbrev pub granted : Answer
-granted = Ok tt
-
--- what there is after a note: a refused one changes nothing
-abbrev pub if_granted : {X : Type 0} → Answer → X → X → X
-if_granted (Ok done) new old = new
-if_granted (Err refusal) new old = old
 
 -- The meaning of a bus: its own ID, and for each node ID an EUI-64 or nobody. Then what a bus reset,
 -- a net update and a note (node ID, EUI-64 or nobody, answer) make of one bus: another, after them.

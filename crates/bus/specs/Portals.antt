@@ -4,10 +4,10 @@ use Rattle.std.specs.Option.{unwrap_or}
 use Rattle.reader.specs.declared.ids.NodeId.{NodeId}
 use Rattle.reader.specs.declared.ids.Eui64.{Eui64}
 use Rattle.reader.specs.Ids.{global}
+use Rattle.notes.specs.Held.{held}
 use Rattle.bus.specs.declared.entries.Entry.{Entry}
 use Rattle.bus.specs.declared.portal.Portal.{Portal}
 use Rattle.bus.specs.Meaning.{BusModel, Answer, nobody}
-use Rattle.bus.specs.Entries.{entries_of}
 use Rattle.bus.specs.GlobalTables.{listed, table_answer, table_after}
 
 -- the global IDs that it adds now, and those noted for the next net update
@@ -16,7 +16,7 @@ pub record PortalTables : Type 0 where
   pub noted : List Entry
 
 abbrev pub portal_tables : {B : Type 0} → Portal B → PortalTables
-portal_tables p = record { shown = entries_of p.shown; noted = entries_of p.noted }
+portal_tables p = record { shown = held p.globals.current; noted = held p.globals.noted }
 
 -- a new one adds nothing
 abbrev pub new_portal : PortalTables

@@ -1,24 +1,22 @@
 -- A portal over a bus that keeps the laws keeps them too. Assumes nothing.
-use Rattle.std.specs.Prelude.{◌≡◌, Bool, true, false, cond, List, [], ◌∷◌, Some, None, MatchBool, Option, ◌==◌, refl}
+use Rattle.std.specs.Prelude.{◌≡◌, Bool, true, false, cond, Some, None, MatchBool, Option, refl}
 use Rattle.std.proofs.Common.{sym, ◌∙◌, ap, arith}
 use Rattle.std.proofs.lemmas.Bool.Decides.{nat_tests}
+use Rattle.std.proofs.lemmas.Option.{none-some}
 use Rattle.reader.specs.declared.ids.NodeId.{NodeId}
 use Rattle.reader.specs.declared.ids.Eui64.{Eui64}
 use Rattle.reader.specs.Ids.{none_id, local, broadcast, global, none_eui}
+use Rattle.notes.specs.Tables as notes
 use Rattle.bus.specs.declared.entries.Entry.{Entry}
 use Rattle.bus.specs.declared.portal.Portal.{Portal}
-use Rattle.bus.specs.Meaning.{BusModel, Lawful, Answer, somebody}
-use Rattle.bus.specs.GlobalTables.{listed}
+use Rattle.bus.specs.Meaning.{BusModel, Lawful, Answer}
+use Rattle.bus.specs.GlobalTables.{is_at, whom, listed}
 use Rattle.bus.specs.Portals.{portal_tables, or_else, portal_shows, portal_answer, portal_noted, portal_model}
-use Rattle.bus.specs.Seating.{none_some, somebody_is}
+use Rattle.bus.specs.Seating.{somebody_is}
 
-listed_real : (es : List Entry) (i : NodeId) (e : Eui64) → listed es i ≡ Some e → none_eui e ≡ false
-listed_real [] i e h = absurd (none_some e h)
-listed_real (x ∷ es) i e h = go (x.node.0 == i.0) h (listed_real es i e)
-  where
-    go : (b : Bool) → cond b (somebody x.eui) (listed es i) ≡ Some e → (listed es i ≡ Some e → none_eui e ≡ false) → none_eui e ≡ false
-    go true k later = (somebody_is x.eui e (none_eui x.eui) refl k).1
-    go false k later = later k
+whom_real : (o : Option Entry) (e : Eui64) → whom o ≡ Some e → none_eui e ≡ false
+whom_real (Some x) e h = (somebody_is x.eui e (none_eui x.eui) refl h).1
+whom_real None e h = absurd (none-some e h)
 
 none_not_global : (i : NodeId) → none_id i ≡ true → global i ≡ false
 none_not_global i h = grind (arith, nat_tests)
@@ -35,7 +33,7 @@ module _ {B : Type 0} (m : BusModel B) (w : Lawful m) where
   as_below p i h = ap (λ b. cond b (or_else (listed (portal_tables p).shown i) (m.shows p.below i)) (m.shows p.below i)) h
 
   real : (p : Portal B) (i : NodeId) (e : Eui64) (b : Bool) (o : Option Eui64) → listed (portal_tables p).shown i ≡ o → cond b (or_else o (m.shows p.below i)) (m.shows p.below i) ≡ Some e → none_eui e ≡ false
-  real p i e true (Some x) k h = listed_real (portal_tables p).shown i e (k ∙ h)
+  real p i e true (Some x) k h = whom_real (notes.listed is_at (portal_tables p).shown i) e (k ∙ h)
   real p i e true None k h = w.all_ones_is_not_shown p.below i e h
   real p i e false o k h = w.all_ones_is_not_shown p.below i e h
 

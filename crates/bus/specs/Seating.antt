@@ -1,8 +1,9 @@
 -- Places that are apart stay so, and show each EUI-64 at one local ID at most. Assumes nothing.
-use Rattle.std.specs.Prelude.{◌≡◌, ℕ, zero, suc, ◌+◌, ◌-◌, ◌<◌, ◌≤◌, Bool, true, false, cond, ◌⊎◌, List, [], ◌∷◌, length, replicate, Some, None, Err, Option, ◌==◌, ◌≢◌, nat_le, nat_lt, slice_index_or, slice_set, refl}
+use Rattle.std.specs.Prelude.{◌≡◌, ℕ, zero, suc, ◌+◌, ◌-◌, ◌<◌, ◌≤◌, Bool, true, false, cond, ◌⊎◌, List, [], ◌∷◌, length, replicate, Some, None, Err, Option, ◌==◌, nat_le, nat_lt, slice_index_or, slice_set, refl}
 use Rattle.std.proofs.Common.{sym, ◌∙◌, ap, inl, inr, arith}
 use Rattle.std.proofs.lemmas.Bool.{eqb-true, both_ways, and_parts, and_from, leb-true, ltb-true, le-leb, lt-ltb, cases_lt}
 use Rattle.std.proofs.lemmas.List.{get_or_past}
+use Rattle.std.proofs.lemmas.Option.{none-some}
 use Rattle.reader.specs.declared.ids.NodeId.{NodeId}
 use Rattle.reader.specs.declared.ids.Eui64.{Eui64}
 use Rattle.reader.specs.declared.refusal.Refusal.TheVariants.{NotedElsewhere}
@@ -20,11 +21,8 @@ place_empty (suc n) (suc k) = place_empty n k
 pub apart_empty : (n : ℕ) → Apart (replicate n nobody)
 apart_empty n i j h = absurd (both_ways (none_eui (place (replicate n nobody) i)) h.1 (ap none_eui (place_empty n i)))
 
-pub none_some : {X : Type 0} (x : X) → None ≢ Some x
-none_some x h = let z : ◌≡◌ {A = ℕ} 0 1 = cc in omega arith
-
 pub somebody_is : (p e : Eui64) (b : Bool) → none_eui p ≡ b → cond b None (Some p) ≡ Some e → (p ≡ e) × (none_eui e ≡ false)
-somebody_is p e true k h = absurd (none_some e h)
+somebody_is p e true k h = absurd (none-some e h)
 somebody_is p e false k h = let q : p ≡ e = cc in (q, sym (ap none_eui q) ∙ k)
 
 -- the number of a local ID is FFC0h more than its place
@@ -58,19 +56,13 @@ module _ (euis : List Eui64) where
     where
       go : (b : Bool) → cond b (somebody (place euis (i.0 - 0xFFC0))) None ≡ Some e → (place euis (i.0 - 0xFFC0) ≡ e) × (none_eui e ≡ false)
       go true m = somebody_is (place euis (i.0 - 0xFFC0)) e (none_eui (place euis (i.0 - 0xFFC0))) refl m
-      go false m = absurd (none_some e m)
+      go false m = absurd (none-some e m)
 
   pub finds_at : (k : ℕ) (e : Eui64) → k < 63 → place euis k ≡ e → none_eui e ≡ false → Finds (seated euis) e (Some (node_id (0xFFC0 + k)))
   finds_at k e h p n =
       let here : local (node_id (0xFFC0 + k)) ≡ true = and_from (nat_le 0xFFC0 (0xFFC0 + k)) (nat_lt (0xFFC0 + k) 0xFFFF) (le-leb 0xFFC0 (0xFFC0 + k) (omega arith)) (lt-ltb (0xFFC0 + k) 0xFFFF (omega arith)) in
       let same : 0xFFC0 + k - 0xFFC0 ≡ k = omega arith in
       (here, simp (here, same, p, n))
-
-  pub finds_nowhere : (e : Eui64) → ((k : ℕ) → k < 63 → place euis k ≢ e) → Finds (seated euis) e None
-  finds_nowhere e h = λ i f. h (i.0 - 0xFFC0) (local_place i f.0).1 (seated_some i e f.1).0
-
-  pub finds_nobody : (e : Eui64) → none_eui e ≡ true → Finds (seated euis) e None
-  finds_nobody e h = λ i f. both_ways (none_eui e) (seated_some i e f.1).1 h
 
   pub seated_apart : Apart euis → (e : Eui64) (i j : NodeId) → (local i ≡ true) × (seated euis i ≡ Some e) → (local j ≡ true) × (seated euis j ≡ Some e) → i ≡ j
   seated_apart w e i j f g =

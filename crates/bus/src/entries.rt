@@ -1,7 +1,5 @@
-// The entries of a table of global IDs. The functions on them stand apart, with the definitions that name this type.
-ghost use Rattle.std.specs.Prelude.{◌≡◌, ◌≤◌, length};
-ghost use Rattle.bus.specs.GlobalTables.{table_size};
-
+// The entries of a portal's tables.
+use notes::keyed::Keyed;
 use reader::ids::{Eui64, NodeId};
 
 pub const SIZE: usize = 32;
@@ -13,11 +11,12 @@ pub struct Entry {
     pub eui: Eui64,
 }
 
-/// The first `count` entries are in use, in the order of noting.
-#[derive(Clone, Copy)]
-pub struct GlobalTable {
-    pub entries: [Entry; SIZE],
-    pub count: usize,
-    ghost size: { length entries ≡ table_size },
-    ghost within: { count ≤ table_size },
+impl Keyed for Entry {
+    type Key = NodeId;
+
+    ghost key = { λ e. e.node };
+
+    fn key(&self) -> NodeId {
+        self.node
+    }
 }

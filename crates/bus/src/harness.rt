@@ -4,6 +4,7 @@ ghost use Rattle.bus.specs.Harnesses.{harness_shows, no_harness, fixed_model};
 ghost use Rattle.std.proofs.Common.{rules, arith};
 
 use crate::Bus;
+use notes::in_range;
 use reader::ids::{Eui64, NodeId};
 use reader::refusal::Refusal;
 
@@ -20,13 +21,9 @@ impl Harness {
     pub fn new(base: u64, count: u16) -> Result<Harness, Refusal>
         ensures { MatchResult result (λ h. (no_harness base count ≡ None) × (h.base ≡ base) × (h.count ≡ count)) (λ e. no_harness base count ≡ Some e) }
     {
-        if count < 1 || count > 63 {
-            return Err(Refusal::OutOfRange(u64::from(count)));
-        }
+        in_range((1..=63).contains(&count), u64::from(count))?;
         // the highest base is 2^64 - 65
-        if base > u64::MAX - 64 {
-            return Err(Refusal::OutOfRange(base));
-        }
+        in_range(base <= u64::MAX - 64, base)?;
         Ok(Harness { base, count })
     }
 }

@@ -6,7 +6,6 @@ ghost use Rattle.bus.specs.Meaning.{BusModel, Lawful, somebody};
 ghost use Rattle.bus.specs.Finding.{Finds, local_of};
 
 mod entries;
-mod globals;
 pub mod harness;
 pub mod local;
 mod places;

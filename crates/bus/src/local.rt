@@ -5,6 +5,7 @@ ghost use Rattle.bus.specs.LocalBusesLemmas.{local_lawful};
 
 use crate::Bus;
 use crate::places::Places;
+use notes::noting::Notes;
 use reader::ids::{Eui64, NodeId};
 use reader::refusal::Refusal;
 
@@ -12,8 +13,7 @@ use reader::refusal::Refusal;
 #[derive(Clone, Copy)]
 pub struct LocalBus {
     eui: Eui64,
-    shown: Places,
-    noted: Places,
+    places: Notes<Places>,
 }
 
 impl LocalBus {
@@ -23,8 +23,7 @@ impl LocalBus {
     {
         LocalBus {
             eui,
-            shown: Places::empty(),
-            noted: Places::empty(),
+            places: Notes::new(Places::empty()),
         }
     }
 }
@@ -35,19 +34,19 @@ impl Bus for LocalBus {
     ghost lawful = { local_lawful };
 
     fn own_id(&self) -> NodeId {
-        self.shown.find(self.eui).unwrap_or(NodeId::NONE)
+        self.places.current.find(self.eui).unwrap_or(NodeId::NONE)
     }
 
     fn who(&self, node: NodeId) -> Option<Eui64> {
-        self.shown.who(node)
+        self.places.current.who(node)
     }
 
     fn find(&self, eui: Eui64) -> Option<NodeId> {
-        self.shown.find(eui)
+        self.places.current.find(eui)
     }
 
     fn reset(&mut self) {
-        self.shown = self.noted;
+        self.places.settle();
     }
 
     fn net_update(&mut self) {
@@ -55,6 +54,6 @@ impl Bus for LocalBus {
     }
 
     fn note(&mut self, node: NodeId, eui: Option<Eui64>) -> Result<(), Refusal> {
-        self.noted.seat(node, eui.unwrap_or(Eui64::NONE))
+        self.places.noted.seat(node, eui.unwrap_or(Eui64::NONE))
     }
 }

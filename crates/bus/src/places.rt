@@ -5,12 +5,14 @@ ghost use Rattle.bus.specs.Finding.{Finds, local_of};
 ghost use Rattle.bus.specs.Places.{Apart, seated, unless_elsewhere, seat_answer, seat_after};
 
 use crate::somebody;
+use notes::in_range;
 use reader::ids::{Eui64, NodeId};
 use reader::refusal::Refusal;
 
 const FIRST: u16 = 0xFFC0;
 
-/// Who is at FFC0h, FFC1h and so on; all ones is nobody, and no one else is at two places.
+/// Who is at FFC0h, FFC1h and so on; all ones is nobody, as in a note and on the wire, and no one
+/// else is at two places.
 #[derive(Clone, Copy)]
 pub struct Places {
     euis: [Eui64; 63],
@@ -30,10 +32,11 @@ impl Places {
     pub fn who(&self, node: NodeId) -> Option<Eui64>
         ensures { result ≡ seated self.now.euis node }
     {
-        if !node.is_local() {
-            return None;
-        }
-        somebody(self.euis[(node.0 - FIRST) as usize])
+        let place = node.0.checked_sub(FIRST)?;
+        self.euis
+            .get(usize::from(place))
+            .copied()
+            .and_then(somebody)
     }
 
     pub fn find(&self, eui: Eui64) -> Option<NodeId>
@@ -43,12 +46,8 @@ impl Places {
         if eui.is_none() {
             return None;
         }
-        for (k, e) in self.euis.iter().enumerate() {
-            if *e == eui {
-                return Some(NodeId(FIRST + k as u16));
-            }
-        }
-        None
+        let place = self.euis.iter().position(|e| *e == eui)?;
+        Some(NodeId(FIRST + place as u16))
     }
 
     /// Seats an EUI-64 (all ones: nobody) at a local ID, unless it is seated at another.
@@ -56,9 +55,7 @@ impl Places {
         ensures answer { result ≡ seat_answer self.old.euis node eui }
         ensures after { self.new.euis ≡ seat_after self.old.euis node eui }
     {
-        if !node.is_local() {
-            return Err(Refusal::OutOfRange(u64::from(node.0)));
-        }
+        in_range(node.is_local(), u64::from(node.0))?;
         self.seated_nowhere_but(node, eui)?;
         self.euis[(node.0 - FIRST) as usize] = eui;
         Ok(())

@@ -3,17 +3,18 @@ ghost use Rattle.std.specs.Prelude.{◌≡◌};
 ghost use Rattle.bus.specs.Portals.{portal_model, portal_tables, new_portal};
 ghost use Rattle.bus.specs.PortalsLemmas.{portal_lawful};
 
-use crate::Bus;
-use crate::entries::GlobalTable;
+use crate::entries::{Entry, SIZE};
+use crate::{Bus, somebody};
+use notes::noting::Notes;
+use notes::slots::Table;
 use reader::ids::{Eui64, NodeId};
 use reader::refusal::Refusal;
 
-/// The bus below, whom the portal shows at global IDs, and who is noted there for the next net update.
+/// The bus below, and whom the portal shows at global IDs, with the notes for the next net update.
 #[derive(Drop)]
 pub struct Portal<B: Bus> {
     below: B,
-    shown: GlobalTable,
-    noted: GlobalTable,
+    globals: Notes<Table<Entry, SIZE>>,
 }
 
 impl<B: Bus> Portal<B> {
@@ -21,10 +22,13 @@ impl<B: Bus> Portal<B> {
         ensures below { result.below ≡ below }
         ensures tables { portal_tables result ≡ new_portal }
     {
+        let free = Entry {
+            node: NodeId::NONE,
+            eui: Eui64::NONE,
+        };
         Portal {
             below,
-            shown: GlobalTable::empty(),
-            noted: GlobalTable::empty(),
+            globals: Notes::new(Table::empty(free)),
         }
     }
 }
@@ -40,7 +44,8 @@ impl<B: Bus> Bus for Portal<B> {
 
     fn who(&self, node: NodeId) -> Option<Eui64> {
         if node.is_global()
-            && let Some(eui) = self.shown.who(node)
+            && let Some(entry) = self.globals.find(node)
+            && let Some(eui) = somebody(entry.eui)
         {
             return Some(eui);
         }
@@ -57,13 +62,14 @@ impl<B: Bus> Bus for Portal<B> {
 
     fn net_update(&mut self) {
         self.below.net_update();
-        self.shown = self.noted;
+        self.globals.settle();
     }
 
     fn note(&mut self, node: NodeId, eui: Option<Eui64>) -> Result<(), Refusal> {
         if !node.is_global() {
             return self.below.note(node, eui);
         }
-        self.noted.note(node, eui.unwrap_or(Eui64::NONE))
+        let eui = eui.unwrap_or(Eui64::NONE);
+        self.globals.note(Entry { node, eui }, !eui.is_none())
     }
 }

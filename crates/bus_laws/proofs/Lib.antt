@@ -1,3 +1,2 @@
-pub mod LocalFollows
 pub mod PortalFollows
 pub mod Topologies

@@ -1,67 +1,40 @@
 -- A portal follows its notes where the bus below follows its own. Assumes nothing.
-use Rattle.std.proofs.Common.{◌≡◌, Bool, true, false, cond, not, eqb, List, [], ◌∷◌, ◌++◌, Some, None, Ok, Err, MatchBool, Option, unwrap_or, sym, refl, ap, ◌∙◌}
-use Rattle.std.proofs.lemmas.Bool.{eqb-true, ne_eqb, eq-eqb}
-use Rattle.std.proofs.lemmas.Bool.Decides.{when_true, when_false}
+use Rattle.std.proofs.Common.{◌≡◌, Bool, true, false, cond, not, List, Some, None, Err, MatchBool, Option, unwrap_or, sym, refl, ap, ◌∙◌, arith}
+use Rattle.std.proofs.lemmas.Bool.{ne_eqb, eq-eqb}
+use Rattle.std.proofs.lemmas.Bool.Decides.{when_true, when_false, nat_tests}
 use Rattle.reader.specs.declared.ids.NodeId.{NodeId}
 use Rattle.reader.specs.declared.ids.Eui64.{Eui64}
 use Rattle.reader.specs.declared.refusal.Refusal.{Refusal}
 use Rattle.reader.specs.Ids.{global, none_eui}
+use Rattle.notes.specs.TablesLemmas.{after_there, after_elsewhere, after_refused}
 use Rattle.bus.specs.declared.entries.Entry.{Entry}
 use Rattle.bus.specs.declared.portal.Portal.{Portal}
-use Rattle.bus.specs.Meaning.{BusModel, Answer, granted, nobody, somebody, if_granted}
-use Rattle.bus.specs.GlobalTables.{listed, others, new_entry, push_answer, table_answer, table_after}
+use Rattle.bus.specs.Meaning.{BusModel, Answer, granted, nobody, somebody}
+use Rattle.bus.specs.GlobalTables.{table_size, is_at, whom, listed, others, push_answer, table_answer, table_after}
 use Rattle.bus.specs.Portals.{portal_tables, or_else, portal_shows, portal_answer, portal_noted, portal_model}
 use Rattle.bus_laws.specs.Following.{Follows, PortalFollows, portal_next}
 use Rattle.bus.specs.PortalsLemmas.{local_not_global}
 
--- the entries for other IDs have nobody at this one, and are as they were at the others
-module _ (i : NodeId) (more : List Entry) where
-  others_pass : (es : List Entry) → listed (others es i ++ more) i ≡ listed more i
-  others_pass [] = refl
-  others_pass (x ∷ es) = go (eqb x.node.0 i.0) refl (others_pass es)
-    where
-      go : (b : Bool) → eqb x.node.0 i.0 ≡ b → listed (others es i ++ more) i ≡ listed more i → listed (cond (not b) (x ∷ others es i) (others es i) ++ more) i ≡ listed more i
-      go true e later = later
-      go false e later = ap (λ b. cond b (somebody x.eui) (listed (others es i ++ more) i)) e ∙ later
-
-  others_keep : (j : NodeId) → (j.0 ≡ i.0 → ⊥) → listed more j ≡ None → (es : List Entry) → listed (others es i ++ more) j ≡ listed es j
-  others_keep j other none [] = none
-  others_keep j other none (x ∷ es) = go (eqb x.node.0 i.0) refl (others_keep j other none es)
-    where
-      go : (b : Bool) → eqb x.node.0 i.0 ≡ b → listed (others es i ++ more) j ≡ listed es j → listed (cond (not b) (x ∷ others es i) (others es i) ++ more) j ≡ cond (eqb x.node.0 j.0) (somebody x.eui) (listed es j)
-      go true e later =
-          let here = eqb-true x.node.0 i.0 e in
-          let away = ne_eqb x.node.0 j.0 (λ h. other (sym h ∙ here)) in
-          later ∙ sym (ap (λ b. cond b (somebody x.eui) (listed es j)) away)
-      go false e later = ap (λ o. cond (eqb x.node.0 j.0) (somebody x.eui) o) later
+-- one at an ID is not at another
+apart : (i j : NodeId) → (j.0 ≡ i.0 → ⊥) → (x : Entry) → is_at x i ≡ true → is_at x j ≡ false
+apart i j other x h = grind (arith, nat_tests)
 
 module _ (es : List Entry) (i : NodeId) (e : Eui64) where
-  entry_here : listed (new_entry i e) i ≡ somebody e
-  entry_here = go (none_eui e) refl
-    where
-      go : (b : Bool) → none_eui e ≡ b → listed (cond b [] (record { node = i; eui = e } ∷ [])) i ≡ cond b None (Some e)
-      go true h = refl
-      go false h = ap (λ b. cond b (somebody e) None) (eq-eqb i.0 i.0 refl) ∙ ap (λ b. cond b None (Some e)) h
+  abbrev here : Entry
+  here = record { node = i; eui = e }
 
-  entry_elsewhere : (j : NodeId) → (j.0 ≡ i.0 → ⊥) → listed (new_entry i e) j ≡ None
-  entry_elsewhere j other = go (none_eui e)
-    where
-      go : (b : Bool) → listed (cond b [] (record { node = i; eui = e } ∷ [])) j ≡ None
-      go true = refl
-      go false = ap (λ b. cond b (somebody e) None) (ne_eqb i.0 j.0 (λ h. other (sym h)))
+  whom_noted : (b : Bool) → none_eui e ≡ b → whom (cond (not b) (Some here) None) ≡ somebody e
+  whom_noted true h = ap (λ b. cond b None (Some e)) (sym h)
+  whom_noted false h = refl
 
   listed_there : table_answer es i e ≡ granted → listed (table_after es i e) i ≡ somebody e
-  listed_there h = ap (λ a. listed (if_granted a (others es i ++ new_entry i e) es) i) h ∙ others_pass i (new_entry i e) es ∙ entry_here
+  listed_there h = ap whom (after_there is_at i here table_size es (not (none_eui e)) (eq-eqb i.0 i.0 refl) h) ∙ whom_noted (none_eui e) refl
 
   listed_elsewhere : (j : NodeId) → (j.0 ≡ i.0 → ⊥) → listed (table_after es i e) j ≡ listed es j
-  listed_elsewhere j other = go (table_answer es i e)
-    where
-      go : (a : Answer) → listed (if_granted a (others es i ++ new_entry i e) es) j ≡ listed es j
-      go (Ok done) = others_keep i (new_entry i e) j other (entry_elsewhere j other) es
-      go (Err r) = refl
+  listed_elsewhere j other = ap whom (after_elsewhere is_at i here j (apart i j other) (ne_eqb i.0 j.0 (λ h. other (sym h))) table_size es (not (none_eui e)))
 
   table_refused : (r : Refusal) → table_answer es i e ≡ Err r → table_after es i e ≡ es
-  table_refused r h = ap (λ a. if_granted a (others es i ++ new_entry i e) es) h
+  table_refused r h = after_refused is_at i here table_size es (not (none_eui e)) r h
 
 module _ {B : Type 0} (m : BusModel B) (next : B → NodeId → Option Eui64) (f : Follows m next) where
   -- what a note is at a portal: its own, or one of the bus below
@@ -122,7 +95,7 @@ module _ {B : Type 0} (m : BusModel B) (next : B → NodeId → Option Eui64) (f
   taken_out p q i e a n far none =
       let es = (portal_tables p).noted in
       let own = when_true _ _ far n in
-      let ok : table_answer es i (unwrap_or e nobody) ≡ granted = ap (λ b. cond b granted (push_answer (others es i))) none in
+      let ok : table_answer es i (unwrap_or e nobody) ≡ granted = ap (λ b. cond (not b) (push_answer (others es i)) granted) none in
       let gone = listed_there es i (unwrap_or e nobody) ok ∙ ap (λ b. cond b None (Some (unwrap_or e nobody))) none in (
         own.1 ∙ ok,
         ap (λ b. next_at b (portal_tables q).noted (next q.below i) i) far

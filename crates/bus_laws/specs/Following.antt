@@ -25,7 +25,7 @@ pub record Follows {B : Type 0} (m : BusModel B) (next : B → NodeId → Option
   pub refused_note : (b c : B) (i : NodeId) (e : Option Eui64) (r : Refusal) → m.Notes b i e (Err r) c → next c ≡ next b
 
 abbrev pub local_next : LocalBus → NodeId → Option Eui64
-local_next b = seated b.noted.euis
+local_next b = seated b.places.noted.euis
 
 abbrev pub portal_next : {B : Type 0} → (B → NodeId → Option Eui64) → Portal B → NodeId → Option Eui64
 portal_next next p = portal_shows (portal_tables p).noted (next p.below)

@@ -1,6 +1,6 @@
--- The law of a maker list's notes.
-use Rattle.access_laws.proofs.ListFollows.{makers_follow, maker_notes}
+-- What each note of a maker list says.
+use Rattle.access_laws.proofs.ListFollows.{maker_notes}
 use Rattle.access_laws.proofs.changes.maker_list_follows_notes.Goals as goal
 
-pub returns : goal.returns
-returns c = record { follows = makers_follow; notes = maker_notes }
+pub returns-clause-notes : goal.returns-clause-notes
+returns-clause-notes c = maker_notes

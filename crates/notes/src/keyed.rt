@@ -1,0 +1,25 @@
+// What an entry of a table is for.
+ghost use Rattle.std.specs.Prelude.{◌≡◌};
+
+use reader::ids::Eui64;
+
+/// An entry of a table, which is for some key.
+pub trait Keyed {
+    type Key: Copy + PartialEq;
+
+    ghost key: { Self → Self.Key };
+
+    /// What it is for.
+    fn key(&self) -> Self::Key
+        ensures { result ≡ key self.now };
+}
+
+impl Keyed for Eui64 {
+    type Key = Eui64;
+
+    ghost key = { λ e. e };
+
+    fn key(&self) -> Eui64 {
+        *self
+    }
+}
