@@ -18,7 +18,7 @@ loop-slot-preserved c =
       | then-is_holder+in_ok-row+in_ok-push_str w ↦
           let row : w.as_str.result.now ≡ holder_line c.loop-slot.first c.loop-slot.slot (row_at rows c.loop-slot.slot) =
           w.as_str.ensures.value ∙ w.in_ok-row.ensures
-          ∙ ap (λ (r : LoginRow). holder_line c.loop-slot.first c.loop-slot.slot r) (w.row.ensures.value ∙ c.login-login.ensures) in
+          ∙ ap (λ (r : LoginRow). holder_line c.loop-slot.first c.loop-slot.slot r) (w.from.ensures.0 ∙ c.login-login.ensures) in
           listed_more holder holder_line no_holder rows c.loop-slot.slot c.loop-slot.first was _ c.loop-slot.invariant free_row after c.if-is_holder.first inside
           (sym held ∙ w.if-is_holder.true)
           (ap string_bytes w.text-is ∙ w.in_ok-push_str.ensures.bytes ∙ ap (λ (z : List ℕ). was ++ z) row)
