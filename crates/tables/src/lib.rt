@@ -2,6 +2,8 @@
 #![tactic(auto)]
 
 pub mod book;
+mod entries;
 pub mod events;
+mod turns;
 pub mod searches;
 pub mod tables;
