@@ -18,8 +18,8 @@ pub written_more : {X : Type 0} (Step : X → X → Type 0) (xs ys : List X) (d 
 written_more Step xs ys d e v i h s w =
     record {
       done = below_more _ _
-        (λ k l. let ne : k ≢ i = omega arith in rw get_or-set_other (w.done k l))
-        (rw get_or-set_same (rw (← w.rest i (omega arith)) (rw (get_or_default ys i d e h) s)));
+          (λ k l. let ne : k ≢ i = omega arith in rw get_or-set_other (w.done k l))
+          (rw get_or-set_same (rw (← w.rest i (omega arith)) (rw (get_or_default ys i d e h) s)));
       rest = λ k l. let ne : k ≢ i = omega arith in rw get_or-set_other (w.rest k (omega arith));
     }
 

@@ -39,9 +39,9 @@ impl Tables {
     pub fn sweep_handles(&mut self, sweep: HandleSweep)
         ensures { book_of self.new ≡ swept_book (book_of self.old) sweep }
     {
-        let logins = self.logins;
+        let logins = &self.logins;
         self.handles
-            .change_each(|handle| swept(&logins, handle, sweep));
+            .change_each(|handle| swept(logins, handle, sweep));
     }
 
     /// Ends the login at a slot, which is then as new, and frees its handles.
@@ -159,7 +159,10 @@ fn swept(logins: &Places<LoginRow, LOGINS>, handle: Handle, sweep: HandleSweep) 
     ensures { result ≡ swept logins.now.entries sweep handle }
 {
     match sweep {
-        HandleSweep::Orphans if !logins.get(usize::from(handle.login).saturating_sub(1)).is_taken() => Handle::free(),
+        HandleSweep::Orphans
+            if !logins
+                .get(usize::from(handle.login).saturating_sub(1))
+                .is_taken() => Handle::free(),
         HandleSweep::AllOf(login) if handle.login == login => Handle::free(),
         HandleSweep::OthersOf(login) if handle.login == login && !handle.own => Handle::free(),
         HandleSweep::NetUpdated if !handle.own => Handle::free(),

@@ -4,6 +4,6 @@
 pub mod book;
 mod entries;
 pub mod events;
-mod turns;
 pub mod searches;
 pub mod tables;
+mod turns;

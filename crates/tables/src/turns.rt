@@ -21,10 +21,7 @@ impl<E: Entry, const N: usize> Places<E, N> {
     pub(crate) fn get(&self, place: usize) -> E
         ensures { result ≡ slice_index_or self.now.entries place E.free }
     {
-        self.entries
-            .get(place)
-            .copied()
-            .unwrap_or(E::vacant())
+        self.entries.get(place).copied().unwrap_or(E::vacant())
     }
 
     // By its index: after `get_mut` no clause says what a write leaves in the array.
@@ -42,8 +39,8 @@ impl<E: Entry, const N: usize> Places<E, N> {
         ensures entries { self.new.entries ≡ slice_set self.old.entries place entry }
         ensures next { self.new.next ≡ cond (nat_lt place N) (after_place N place) self.old.next }
     {
+        self.put(place, entry);
         if place < N {
-            self.entries[place] = entry;
             self.next = after(place, N);
         }
     }

@@ -10,7 +10,7 @@ use Rattle.responses.proofs.queries.write_entries.Goals.{then-is_among+else-left
 
 pub returns-then-left-lt12 : goal.returns-then-left-lt12
 returns-then-left-lt12 c =
-    let rows = c.args.tables.now.logins in
+    let rows = c.args.tables.now.logins.entries in
     let meant : among (OfUnit c.args.unit) (row_at rows c.loop-slot.slot) ≡ _ = sym (ap (among (OfUnit c.args.unit)) c.login-login.ensures) ∙ sym c.is_among.ensures ∙ c.if-is_among.true in
     record {
       within = omega (arith, c.loop-slot.invariant.1);
@@ -19,7 +19,7 @@ returns-then-left-lt12 c =
 
 pub loop-slot-preserved : goal.loop-slot-preserved
 loop-slot-preserved c =
-    let rows = c.args.tables.now.logins in
+    let rows = c.args.tables.now.logins.entries in
     let before = take c.loop-slot.at c.loop-slot.area in
     let after = take c.if-is_among.at c.if-is_among.area in
     let inside : c.loop-slot.slot < length rows = search rules in
@@ -41,5 +41,5 @@ pub returns : goal.returns
 returns c =
     record {
       within = omega (arith, c.loop-slot.invariant.1);
-      told = told_all c.args.tables.now.logins c.args.unit c.loop-slot.left c.loop-slot.slot (take c.loop-slot.at c.loop-slot.area) _ c.loop-slot.invariant.0 (search rules);
+      told = told_all c.args.tables.now.logins.entries c.args.unit c.loop-slot.left c.loop-slot.slot (take c.loop-slot.at c.loop-slot.area) _ c.loop-slot.invariant.0 (search rules);
     }

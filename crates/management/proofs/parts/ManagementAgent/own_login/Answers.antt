@@ -7,6 +7,6 @@ use Rattle.management.proofs.parts.ManagementAgent.own_login.Goals as goal
 
 pub returns-in-Active : goal.returns-in-Active
 returns-in-Active g c =
-    let e : state (row_at c.args.self.now.tables.logins (c.from-slot.result - 1)) ≡ Active = let f = c.in-Active.ensures in cc in
-    let h = active_within c.args.self.now.tables.logins (c.from-slot.result - 1) e in
-    record { value = search rules; within = omega (arith, h, c.args.self.now.tables.many.0) }
+    let e : state (row_at c.args.self.now.tables.logins.entries (c.from-slot.result - 1)) ≡ Active = let f = c.in-Active.ensures in cc in
+    let h = active_within c.args.self.now.tables.logins.entries (c.from-slot.result - 1) e in
+    record { value = search rules; within = omega (arith, h, c.args.self.now.tables.logins.size) }
