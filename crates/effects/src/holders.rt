@@ -96,7 +96,7 @@ fn holder_rows(heap: Global, tables: &Tables) -> Result<String, AllocError>
     for slot in 0..LOGINS {
         let login = tables.login(slot);
         if login.is_holder() {
-            let row = holder_row(heap, slot, login.row())?;
+            let row = holder_row(heap, slot, LoginRow::from(login))?;
             text.push_str(row.as_str())?;
             first = false;
         }

@@ -146,7 +146,7 @@ fn holders_words(heap: Global, tables: &Tables) -> Result<String, AllocError>
     for slot in 0..LOGINS {
         let login = tables.login(slot);
         if login.is_holder() {
-            let row = holder_words(heap, first, slot, login.row())?;
+            let row = holder_words(heap, first, slot, LoginRow::from(login))?;
             text.push_str(row.as_str())?;
             first = false;
         }

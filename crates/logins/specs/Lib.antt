@@ -1,4 +1,5 @@
 pub mod Owners
 pub mod Logins
+pub mod Checks
 pub mod Rows
 pub mod Tests

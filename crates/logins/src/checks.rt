@@ -1,30 +1,49 @@
-// A row of the table becomes a record only after a check.
-ghost use Rattle.std.specs.Prelude.{◌≡◌, false, MatchOption};
+// A row of the table becomes a record only after a check, and a record is written back as a row, whole.
+ghost use Rattle.std.specs.Prelude.{◌≡◌, true};
 ghost use Rattle.logins.specs.Logins.{row_of, sound};
+ghost use Rattle.logins.specs.Checks.{Checks};
 
-use crate::rows::{Login, LoginRow};
+use crate::rows::{Login, LoginRow, UnsoundRow};
 
-impl LoginRow {
-    /// The record of this row, if it is one.
-    pub fn check(self) -> Option<Login>
-        ensures { MatchOption result (sound self ≡ false) (λ l. row_of l ≡ self) }
-    {
-        if self.owner_eui_64.is_none() && !self.owner_id.is_none() {
-            return None;
+impl TryFrom<LoginRow> for Login {
+    type Error = UnsoundRow;
+
+    ghost try_from_gives = { Checks };
+
+    fn try_from(row: LoginRow) -> Result<Login, UnsoundRow> {
+        if row.owner_eui_64.is_none() && !row.owner_id.is_none() {
+            return Err(UnsoundRow::NodeOfNobody);
         }
-        let reserved = !self.owner_eui_64.is_none() && self.owner_id.is_none();
-        if !reserved && self.ticks_left != 0 {
-            return None;
+        let reserved = !row.owner_eui_64.is_none() && row.owner_id.is_none();
+        if !reserved && row.ticks_left != 0 {
+            return Err(UnsoundRow::TicksNotReserved);
         }
-        Some(Login {
-            unit: self.unit,
-            owner_id: self.owner_id,
-            owner_eui_64: self.owner_eui_64,
-            status_fifo: self.status_fifo,
-            exclusive: self.exclusive,
-            aware: self.aware,
-            hold: self.hold,
-            ticks_left: self.ticks_left,
+        Ok(Login {
+            unit: row.unit,
+            owner_id: row.owner_id,
+            owner_eui_64: row.owner_eui_64,
+            status_fifo: row.status_fifo,
+            exclusive: row.exclusive,
+            aware: row.aware,
+            hold: row.hold,
+            ticks_left: row.ticks_left,
         })
+    }
+}
+
+impl From<Login> for LoginRow {
+    ghost from_gives = { λ login row. (row ≡ row_of login) × (sound row ≡ true) };
+
+    fn from(login: Login) -> LoginRow {
+        LoginRow {
+            unit: login.unit,
+            owner_id: login.owner_id,
+            owner_eui_64: login.owner_eui_64,
+            status_fifo: login.status_fifo,
+            exclusive: login.exclusive,
+            aware: login.aware,
+            hold: login.hold,
+            ticks_left: login.ticks_left,
+        }
     }
 }

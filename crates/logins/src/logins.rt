@@ -1,9 +1,9 @@
-// One login: its state, its row, and what each event makes of it.
+// One login: its state, and what each event makes of it.
 ghost use Rattle.std.specs.Prelude.{◌≡◌, true};
 ghost use Rattle.logins.specs.Tests.{among};
-ghost use Rattle.logins.specs.Logins.{row_of, free_row, state, sound, holder, reserved, held_back, moved, ticked, row_after};
+ghost use Rattle.logins.specs.Logins.{row_of, free_row, state, holder, reserved, held_back, moved, ticked, row_after};
 
-use crate::rows::{Holders, Login, LoginEvent, LoginRow, LoginState};
+use crate::rows::{Holders, Login, LoginEvent, LoginState};
 use reader::ids::{Eui64, NodeId};
 
 impl Login {
@@ -20,23 +20,6 @@ impl Login {
             aware: false,
             hold: 0,
             ticks_left: 0,
-        }
-    }
-
-    /// The row that it is written back as, whole.
-    pub fn row(self) -> LoginRow
-        ensures value { result ≡ row_of self }
-        ensures sound { sound result ≡ true }
-    {
-        LoginRow {
-            unit: self.unit,
-            owner_id: self.owner_id,
-            owner_eui_64: self.owner_eui_64,
-            status_fifo: self.status_fifo,
-            exclusive: self.exclusive,
-            aware: self.aware,
-            hold: self.hold,
-            ticks_left: self.ticks_left,
         }
     }
 
@@ -91,35 +74,32 @@ impl Login {
     }
 
     // Reserved for its owner, from the first gap on.
-    fn held_back(self) -> Login
+    fn held_back(mut self) -> Login
         requires { holder (row_of self) ≡ true }
         ensures { row_of result ≡ held_back (row_of self) }
     {
-        let mut login = self;
-        login.owner_id = NodeId::NONE;
-        login.ticks_left = u16::from(self.hold) + 2;
-        login
+        self.owner_id = NodeId::NONE;
+        self.ticks_left = u16::from(self.hold) + 2;
+        self
     }
 
-    fn moved(self, node: NodeId) -> Login
+    fn moved(mut self, node: NodeId) -> Login
         requires { holder (row_of self) ≡ true }
         ensures { row_of result ≡ moved (row_of self) node 0 }
     {
-        let mut login = self;
-        login.owner_id = node;
-        login.ticks_left = 0;
-        login
+        self.owner_id = node;
+        self.ticks_left = 0;
+        self
     }
 
-    fn ticked(self) -> Login
+    fn ticked(mut self) -> Login
         requires { reserved (row_of self) ≡ true }
         ensures { row_of result ≡ ticked (row_of self) }
     {
         if self.ticks_left <= 1 {
             return Login::free();
         }
-        let mut login = self;
-        login.ticks_left -= 1;
-        login
+        self.ticks_left -= 1;
+        self
     }
 }

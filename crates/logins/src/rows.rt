@@ -7,8 +7,9 @@ ghost use Rattle.logins.specs.Owners.{waiting};
 use reader::ids::{Eui64, NodeId};
 
 /// A login as the table holds it. It is free with both owner fields none, reserved with only the owner ID none, and
-/// otherwise active; a holder is a login not free.
-#[derive(Clone, Copy)]
+/// otherwise active; a holder is a login not free. None is a value of its field and no `Option`: the rules want plain
+/// rows, in which nobody and nowhere are numbers too.
+#[derive(Clone, Copy, PartialEq, Eq)]
 pub struct LoginRow {
     pub unit: u16,
     pub owner_id: NodeId,
@@ -21,7 +22,7 @@ pub struct LoginRow {
 }
 
 /// A login that was checked: no owner ID without an owner EUI-64, and ticks left only while it is reserved.
-#[derive(Clone, Copy)]
+#[derive(Clone, Copy, PartialEq, Eq)]
 pub struct Login {
     pub unit: u16,
     pub owner_id: NodeId,
@@ -35,7 +36,16 @@ pub struct Login {
     ghost timed: { (waiting owner_id owner_eui_64 ≡ false → ticks_left ≡ 0) },
 }
 
-#[derive(Clone, Copy)]
+/// What is wrong with a row that is no record.
+#[derive(Clone, Copy, PartialEq, Eq)]
+pub enum UnsoundRow {
+    /// An owner ID without an owner EUI-64.
+    NodeOfNobody,
+    /// Ticks left of a login that is not reserved.
+    TicksNotReserved,
+}
+
+#[derive(Clone, Copy, PartialEq, Eq)]
 pub enum LoginState {
     Free,
     Reserved,
@@ -43,7 +53,7 @@ pub enum LoginState {
 }
 
 /// What happens to a login. A reset brings the local ID that now shows its owner, a reconnect the source ID.
-#[derive(Clone, Copy)]
+#[derive(Clone, Copy, PartialEq, Eq)]
 pub enum LoginEvent {
     Reset(Option<NodeId>),
     NetUpdate,
@@ -51,8 +61,8 @@ pub enum LoginEvent {
     Reconnect(NodeId),
 }
 
-/// A node handle of a login, by login ID; 0 is none, and the handle free.
-#[derive(Clone, Copy)]
+/// A node handle of a login, by login ID; 0 is none, and the handle free, since it is a plain row too.
+#[derive(Clone, Copy, PartialEq, Eq)]
 pub struct Handle {
     pub login: u16,
     pub eui_64: Eui64,
@@ -60,8 +70,8 @@ pub struct Handle {
     pub own: bool,
 }
 
-/// Which holders are meant.
-#[derive(Clone, Copy)]
+/// Which holders are meant: a value, and no closure, so that one definition says what each count of them is.
+#[derive(Clone, Copy, PartialEq, Eq)]
 pub enum Holders {
     All,
     OfUnit(u16),
@@ -71,15 +81,16 @@ pub enum Holders {
     Owning(Eui64, u16),
 }
 
-/// Which handle of a login is meant.
-#[derive(Clone, Copy)]
+/// Which handle of a login is meant: a value, and no closure, for the same reason.
+#[derive(Clone, Copy, PartialEq, Eq)]
 pub enum WhichHandle {
     For(Eui64),
     Own,
 }
 
-/// Which handles are freed: those whose login has ended, those of a login, or those and where own ones go at a net update.
-#[derive(Clone, Copy)]
+/// Which handles are freed: those whose login has ended, all of a login or all but its own, or at a net update all but
+/// own ones. A value, and no closure, for the same reason.
+#[derive(Clone, Copy, PartialEq, Eq)]
 pub enum HandleSweep {
     Orphans,
     AllOf(u16),

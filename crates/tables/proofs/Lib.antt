@@ -1,3 +1,4 @@
 pub mod Setting
 pub mod Places
 pub mod Sweeps
+pub mod Counts

@@ -1,40 +1,36 @@
--- A loop that writes f of each row over it, step by step. Assumes nothing.
-use Rattle.std.proofs.Common.{◌≡◌, ℕ, ◌+◌, ◌<◌, ◌≤◌, List, ◌++◌, map, length, get_or, take, drop, set, ap, ◌∙◌, arith}
-use Rattle.std.proofs.lemmas.List.Edits.{map_over_more}
-use Rattle.std.proofs.lemmas.List.{get_or_default, length-append, length-map, length-take, length-drop, take_all, drop_all, append-nil}
+-- A loop that writes over each entry what a step makes of it, and what its result is where the step computes a function.
+-- Assumes nothing.
+use Rattle.std.proofs.Common.{◌≡◌, ℕ, ◌+◌, ◌<◌, ◌≤◌, ◌≢◌, List, map, length, get_or, set, sym, ap, ◌∙◌, arith, below_more, get_or-set_other, get_or-set_same}
 use Rattle.logins.specs.Logins.{free_row}
-use Rattle.logins.specs.Rows.{row_at, handle_at, free_handle}
-use Rattle.logins.specs.declared.rows.Handle.{Handle}
+use Rattle.logins.specs.Rows.{SoundRows, row_at}
 use Rattle.logins.specs.declared.rows.LoginRow.{LoginRow}
-use Rattle.tables.specs.Books.{Book, with_logins, with_handles, put_login, put_handle}
+use Rattle.tables.specs.Records.{mended}
+use Rattle.tables.proofs.Setting.{mended_sound}
+use Rattle.std.proofs.lemmas.List.{get_or_default, get_or-map, length-map, ext_get_or}
 
--- the first i rows done, the others as they were
-abbrev pub done : {X : Type 0} → (X → X) → List X → ℕ → List X
-done f xs i = map f (take i xs) ++ drop i xs
+-- the entries below i are written, and the others as they were
+pub record Written {X : Type 0} (Step : X → X → Type 0) (xs ys : List X) (d : X) (i : ℕ) : Type 0 where
+  pub done : (k : ℕ) → k < i → Step (get_or xs k d) (get_or ys k d)
+  pub rest : (k : ℕ) → i ≤ k → get_or ys k d ≡ get_or xs k d
 
-module _ {X : Type 0} (f : X → X) (xs ys : List X) where
-  pub sweep_more : (i : ℕ) (d : X) → i < length xs → ys ≡ done f xs i → set ys i (f (get_or ys i d)) ≡ done f xs (i + 1)
-  sweep_more i d h e =
-      let n : length ys ≡ length xs = simp (e, length-append, length-map, length-take, length-drop) (omega arith) in
-      map_over_more f xs ys i (get_or ys i d) h e (get_or_default ys i d (get_or ys i d) (omega arith))
+pub written_more : {X : Type 0} (Step : X → X → Type 0) (xs ys : List X) (d e v : X) (i : ℕ) → i < length ys → Step (get_or ys i e) v
+    → Written Step xs ys d i → Written Step xs (set ys i v) d (i + 1)
+written_more Step xs ys d e v i h s w =
+    record {
+      done = below_more _ _
+          (λ k l. let ne : k ≢ i = omega arith in rw get_or-set_other (w.done k l))
+          (rw get_or-set_same (rw (← w.rest i (omega arith)) (rw (get_or_default ys i d e h) s)));
+      rest = λ k l. let ne : k ≢ i = omega arith in rw get_or-set_other (w.rest k (omega arith));
+    }
 
-pub done_all : {X : Type 0} (f : X → X) (xs : List X) (i : ℕ) → length xs ≤ i → done f xs i ≡ map f xs
-done_all f xs i h = simp (take_all i xs h, drop_all i xs h, append-nil)
+-- a step that computes f at each entry maps them
+pub mapped : {X : Type 0} (f : X → X) (xs ys : List X) (d : X) (n : ℕ) → length xs ≡ n → length ys ≡ n
+    → ((k : ℕ) → k < n → get_or ys k d ≡ f (get_or xs k d)) → ys ≡ map f xs
+mapped f xs ys d n long same_long each =
+    ext_get_or d ys (map f xs) (same_long ∙ sym (length-map _ _ ∙ long)) (λ i h. each i (omega arith) ∙ sym (get_or-map f xs i d d (omega arith)))
 
--- the same in a book, by the logins or by the handles
-module _ (b now next : Book) (i : ℕ) where
-  pub logins_more : (f : LoginRow → LoginRow) (row : LoginRow) → i < length b.logins → now ≡ with_logins b (done f b.logins i)
-      → row ≡ f (row_at now.logins i) → next ≡ put_login now i row → next ≡ with_logins b (done f b.logins (i + 1))
-  logins_more f row h e r q =
-      let rows = ap (λ (x : Book). x.logins) e in
-      q ∙ ap (λ (x : LoginRow). put_login now i x) r
-      ∙ ap (λ (x : List LoginRow). with_logins now x) (sweep_more f b.logins now.logins i free_row h rows)
-      ∙ ap (λ (x : Book). with_logins x (done f b.logins (i + 1))) e
-
-  pub handles_more : (f : Handle → Handle) (handle : Handle) → i < length b.handles → now ≡ with_handles b (done f b.handles i)
-      → handle ≡ f (handle_at now.handles i) → next ≡ put_handle now i handle → next ≡ with_handles b (done f b.handles (i + 1))
-  handles_more f handle h e r q =
-      let rows = ap (λ (x : Book). x.handles) e in
-      q ∙ ap (λ (x : Handle). put_handle now i x) r
-      ∙ ap (λ (x : List Handle). with_handles now x) (sweep_more f b.handles now.handles i free_handle h rows)
-      ∙ ap (λ (x : Book). with_handles x (done f b.handles (i + 1))) e
+-- the same of sound rows, which are read as they stand
+pub rows_mapped : (f : LoginRow → LoginRow) (xs ys : List LoginRow) (n : ℕ) → length xs ≡ n → length ys ≡ n → SoundRows xs
+    → ((k : ℕ) → k < n → row_at ys k ≡ f (mended (row_at xs k))) → ys ≡ map f xs
+rows_mapped f xs ys n long same_long all each =
+    mapped f xs ys free_row n long same_long (λ k h. each k h ∙ ap f (mended_sound (row_at xs k) (all k)))

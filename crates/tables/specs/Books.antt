@@ -16,7 +16,13 @@ pub record Book : Type 0 where
 
 abbrev pub book_of : Tables → Book
 book_of t =
-    record { logins = t.logins; handles = t.handles; next_login = t.next_login; next_handle = t.next_handle; ticking = t.ticking }
+    record {
+      logins = t.logins.entries;
+      handles = t.handles.entries;
+      next_login = t.logins.next;
+      next_handle = t.handles.next;
+      ticking = t.ticking;
+    }
 
 -- no holder, no handle in use, both searches at place 0, and no gap yet
 abbrev pub new_book : Book

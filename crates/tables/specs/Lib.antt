@@ -1,3 +1,4 @@
+pub mod Records
 pub mod Books
 pub mod Searches
 pub mod Events

@@ -4,11 +4,12 @@ ghost use Rattle.logins.specs.Logins.{row_of};
 ghost use Rattle.tables.specs.Books.{book_of, with_logins, with_handles};
 ghost use Rattle.tables.specs.Events.{given_login, given_handle, moved_handle, swept, swept_book, ended, ticking_so, each_login, net_updated, tick_counted, reset_row, reset_handle, was_reset, kept_row, access_changed};
 
-use crate::searches::after;
-use crate::tables::{HANDLES, LOGINS, Tables};
+use crate::book::checked;
+use crate::entries::{Entry, Places};
+use crate::tables::{LOGINS, Tables};
 use access::Access;
 use bus::{Bus, local_id};
-use logins::rows::{Handle, HandleSweep, Login, LoginEvent};
+use logins::rows::{Handle, HandleSweep, Login, LoginEvent, LoginRow};
 use reader::ids::NodeId;
 
 impl Tables {
@@ -16,60 +17,31 @@ impl Tables {
     pub fn give_login(&mut self, slot: usize, login: Login)
         ensures { book_of self.new ≡ given_login (book_of self.old) slot (row_of login) }
     {
-        if slot < LOGINS {
-            self.put_login(slot, login);
-            self.next_login = after(slot, LOGINS);
-        }
+        self.logins.give(slot, LoginRow::from(login));
     }
 
     /// Gives a place to a handle; the next search begins behind it.
     pub fn give_handle(&mut self, place: usize, handle: Handle)
         ensures { book_of self.new ≡ given_handle (book_of self.old) place handle }
     {
-        if place < HANDLES {
-            self.put_handle(place, handle);
-            self.next_handle = after(place, HANDLES);
-        }
+        self.handles.give(place, handle);
     }
 
     /// Moves a handle to another node, in its place.
     pub fn move_handle(&mut self, place: usize, node: NodeId)
         ensures { book_of self.new ≡ moved_handle (book_of self.old) place node }
     {
-        if place < HANDLES {
-            self.handles[place].node = node;
-        }
-    }
-
-    fn swept(&self, handle: Handle, sweep: HandleSweep) -> Handle
-        ensures { result ≡ swept (book_of self.now).logins sweep handle }
-    {
-        let freed = match sweep {
-            HandleSweep::Orphans => !self
-                .login(usize::from(handle.login).saturating_sub(1))
-                .is_holder(),
-            HandleSweep::AllOf(login) => handle.login == login,
-            HandleSweep::OthersOf(login) => handle.login == login && !handle.own,
-            HandleSweep::NetUpdated => !handle.own,
-        };
-        if freed {
-            return Handle::free();
-        }
-        let mut kept = handle;
-        if let HandleSweep::NetUpdated = sweep {
-            kept.node = NodeId::NONE;
-        }
-        kept
+        let handle = self.handle(place);
+        self.put_handle(place, Handle { node, ..handle });
     }
 
     /// Frees the handles that are meant.
     pub fn sweep_handles(&mut self, sweep: HandleSweep)
         ensures { book_of self.new ≡ swept_book (book_of self.old) sweep }
     {
-        for place in 0..HANDLES {
-            let handle = self.swept(self.handle(place), sweep);
-            self.put_handle(place, handle);
-        }
+        let logins = &self.logins;
+        self.handles
+            .change_each(|handle| swept(logins, handle, sweep));
     }
 
     /// Ends the login at a slot, which is then as new, and frees its handles.
@@ -83,10 +55,8 @@ impl Tables {
     fn each_login(&mut self, event: LoginEvent)
         ensures { book_of self.new ≡ each_login (book_of self.old) event }
     {
-        for slot in 0..LOGINS {
-            let login = self.login(slot).after(event);
-            self.put_login(slot, login);
-        }
+        self.logins
+            .change_each(|row| LoginRow::from(checked(row).after(event)));
     }
 
     /// A net update: every active login becomes reserved, and only own handles stay, at no node.
@@ -126,10 +96,8 @@ impl Tables {
     fn keep_admitted<A: Access>(&mut self, list: &A)
         ensures { book_of self.new ≡ with_logins (book_of self.old) (map (kept_row (A.Access.model.admits list.now)) (book_of self.old).logins) }
     {
-        for slot in 0..LOGINS {
-            let login = if_admitted(list, self.login(slot));
-            self.put_login(slot, login);
-        }
+        self.logins
+            .change_each(|row| LoginRow::from(if_admitted(list, checked(row))));
     }
 
     /// A bus reset, after it came to the bus: unaware logins and those whose owner is gone become reserved, aware
@@ -145,20 +113,14 @@ impl Tables {
     fn reset_logins<B: Bus>(&mut self, bus: &B)
         ensures { book_of self.new ≡ with_logins (book_of self.old) (map (reset_row (B.Bus.model.shows bus.now)) (book_of self.old).logins) }
     {
-        for slot in 0..LOGINS {
-            let login = self.login(slot);
-            let found = local_id(bus, login.owner_eui_64);
-            self.put_login(slot, login.after(LoginEvent::Reset(found)));
-        }
+        self.logins
+            .change_each(|row| LoginRow::from(after_reset(bus, checked(row))));
     }
 
     fn reset_handles<B: Bus>(&mut self, bus: &B)
         ensures { book_of self.new ≡ with_handles (book_of self.old) (map (reset_handle (B.Bus.model.shows bus.now)) (book_of self.old).handles) }
     {
-        for place in 0..HANDLES {
-            let handle = found_again(bus, self.handle(place));
-            self.put_handle(place, handle);
-        }
+        self.handles.change_each(|handle| found_again(bus, handle));
     }
 }
 
@@ -166,11 +128,20 @@ impl Tables {
 fn found_again<B: Bus>(bus: &B, handle: Handle) -> Handle
     ensures { result ≡ reset_handle (B.Bus.model.shows bus.now) handle }
 {
-    let mut found = handle;
     if handle.is_in_use() && handle.node.0 >= 0xFFC0 {
-        found.node = local_id(bus, handle.eui_64).unwrap_or(NodeId::NONE);
+        Handle {
+            node: local_id(bus, handle.eui_64).unwrap_or(NodeId::NONE),
+            ..handle
+        }
+    } else {
+        handle
     }
-    found
+}
+
+fn after_reset<B: Bus>(bus: &B, login: Login) -> Login
+    ensures { row_of result ≡ reset_row (B.Bus.model.shows bus.now) (row_of login) }
+{
+    login.after(LoginEvent::Reset(local_id(bus, login.owner_eui_64)))
 }
 
 fn if_admitted<A: Access>(list: &A, login: Login) -> Login
@@ -180,5 +151,25 @@ fn if_admitted<A: Access>(list: &A, login: Login) -> Login
         Login::free()
     } else {
         login
+    }
+}
+
+// What a sweep makes of a handle, by the logins.
+fn swept(logins: &Places<LoginRow, LOGINS>, handle: Handle, sweep: HandleSweep) -> Handle
+    ensures { result ≡ swept logins.now.entries sweep handle }
+{
+    match sweep {
+        HandleSweep::Orphans
+            if !logins
+                .get(usize::from(handle.login).saturating_sub(1))
+                .is_taken() => Handle::free(),
+        HandleSweep::AllOf(login) if handle.login == login => Handle::free(),
+        HandleSweep::OthersOf(login) if handle.login == login && !handle.own => Handle::free(),
+        HandleSweep::NetUpdated if !handle.own => Handle::free(),
+        HandleSweep::NetUpdated => Handle {
+            node: NodeId::NONE,
+            ..handle
+        },
+        _ => handle,
     }
 }

@@ -2,6 +2,8 @@
 #![tactic(auto)]
 
 pub mod book;
+mod entries;
 pub mod events;
 pub mod searches;
 pub mod tables;
+mod turns;

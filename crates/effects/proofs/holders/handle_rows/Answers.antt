@@ -9,7 +9,7 @@ use Rattle.effects.proofs.holders.handle_rows.Goals.{then-is_in_use+in_ok-row+in
 
 pub loop-place-preserved : goal.loop-place-preserved
 loop-place-preserved c =
-    let handles = c.args.tables.now.handles in
+    let handles = c.args.tables.now.handles.entries in
     let was : List ℕ = string_bytes c.loop-place.text in
     let after : List ℕ = string_bytes c.if-is_in_use.text in
     let inside : c.loop-place.place < length handles = search rules in
@@ -30,4 +30,4 @@ loop-place-preserved c =
 pub returns : goal.returns
 returns c =
     sym (append-nil (string_bytes c.loop-place.text))
-    ∙ whole (handle_lines c.loop-place.place) (handle_lines c.loop-place.place) c.args.tables.now.handles c.loop-place.place (string_bytes c.loop-place.text) _ c.loop-place.invariant (search rules)
+    ∙ whole (handle_lines c.loop-place.place) (handle_lines c.loop-place.place) c.args.tables.now.handles.entries c.loop-place.place (string_bytes c.loop-place.text) _ c.loop-place.invariant (search rules)

@@ -9,7 +9,7 @@ use Rattle.effects.proofs.holders.holder_rows.Goals.{then-is_holder+in_ok-row+in
 
 pub loop-slot-preserved : goal.loop-slot-preserved
 loop-slot-preserved c =
-    let rows = c.args.tables.now.logins in
+    let rows = c.args.tables.now.logins.entries in
     let was : List ℕ = string_bytes c.loop-slot.text in
     let after : List ℕ = string_bytes c.if-is_holder.text in
     let inside : c.loop-slot.slot < length rows = search rules in
@@ -18,7 +18,7 @@ loop-slot-preserved c =
       | then-is_holder+in_ok-row+in_ok-push_str w ↦
           let row : w.as_str.result.now ≡ holder_line c.loop-slot.first c.loop-slot.slot (row_at rows c.loop-slot.slot) =
           w.as_str.ensures.value ∙ w.in_ok-row.ensures
-          ∙ ap (λ (r : LoginRow). holder_line c.loop-slot.first c.loop-slot.slot r) (w.row.ensures.value ∙ c.login-login.ensures) in
+          ∙ ap (λ (r : LoginRow). holder_line c.loop-slot.first c.loop-slot.slot r) (w.from.ensures.0 ∙ c.login-login.ensures) in
           listed_more holder holder_line no_holder rows c.loop-slot.slot c.loop-slot.first was _ c.loop-slot.invariant free_row after c.if-is_holder.first inside
           (sym held ∙ w.if-is_holder.true)
           (ap string_bytes w.text-is ∙ w.in_ok-push_str.ensures.bytes ∙ ap (λ (z : List ℕ). was ++ z) row)
@@ -32,5 +32,5 @@ loop-slot-preserved c =
 
 pub returns : goal.returns
 returns c =
-    listed_all holder holder_line no_holder c.args.tables.now.logins c.loop-slot.slot c.loop-slot.first (string_bytes c.loop-slot.text) _ c.loop-slot.invariant (string_bytes c.push_str-2.new.self) (search rules)
+    listed_all holder holder_line no_holder c.args.tables.now.logins.entries c.loop-slot.slot c.loop-slot.first (string_bytes c.loop-slot.text) _ c.loop-slot.invariant (string_bytes c.push_str-2.new.self) (search rules)
     (c.in_ok-push_str-2.ensures.bytes ∙ ap (λ (z : List ℕ). string_bytes c.loop-slot.text ++ z) c.no_holder.ensures)

@@ -8,7 +8,7 @@ use Rattle.effects.proofs.trace.handles_words.Goals.{then-is_in_use+in_ok-row+in
 
 pub loop-place-preserved : goal.loop-place-preserved
 loop-place-preserved c =
-    let rows = c.args.tables.now.handles in
+    let rows = c.args.tables.now.handles.entries in
     let was : List ℕ = string_bytes c.loop-place.text in
     let after : List ℕ = string_bytes c.if-is_in_use.text in
     let inside : c.loop-place.place < length rows = search rules in
@@ -31,5 +31,5 @@ loop-place-preserved c =
 
 pub returns : goal.returns
 returns c =
-    listed_all in_use node_handle_text hyphen c.args.tables.now.handles c.loop-place.place c.loop-place.first (string_bytes c.loop-place.text) _ c.loop-place.invariant (string_bytes c.push_str-2.new.self) (search rules)
+    listed_all in_use node_handle_text hyphen c.args.tables.now.handles.entries c.loop-place.place c.loop-place.first (string_bytes c.loop-place.text) _ c.loop-place.invariant (string_bytes c.push_str-2.new.self) (search rules)
     (c.in_ok-push_str-2.ensures.bytes ∙ ap (λ (z : List ℕ). string_bytes c.loop-place.text ++ z) c.hyphen.ensures)

@@ -6,4 +6,4 @@ use Rattle.effects.specs.Trace.{hyphen, node_handle_text}
 use Rattle.effects.proofs.trace.handles_words.Given as goal
 
 abbrev pub invariant-loop-place : goal.invariant-loop-place
-invariant-loop-place l = string_bytes l.text ++ listed in_use node_handle_text hyphen l.first l.place (drop l.place l.tables.handles) ≡ listed in_use node_handle_text hyphen true 0 l.tables.handles
+invariant-loop-place l = string_bytes l.text ++ listed in_use node_handle_text hyphen l.first l.place (drop l.place l.tables.handles.entries) ≡ listed in_use node_handle_text hyphen true 0 l.tables.handles.entries

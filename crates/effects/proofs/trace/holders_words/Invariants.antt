@@ -6,4 +6,4 @@ use Rattle.effects.specs.Trace.{hyphen, holder_text}
 use Rattle.effects.proofs.trace.holders_words.Given as goal
 
 abbrev pub invariant-loop-slot : goal.invariant-loop-slot
-invariant-loop-slot l = string_bytes l.text ++ listed holder holder_text hyphen l.first l.slot (drop l.slot l.tables.logins) ≡ listed holder holder_text hyphen true 0 l.tables.logins
+invariant-loop-slot l = string_bytes l.text ++ listed holder holder_text hyphen l.first l.slot (drop l.slot l.tables.logins.entries) ≡ listed holder holder_text hyphen true 0 l.tables.logins.entries

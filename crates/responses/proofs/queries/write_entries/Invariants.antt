@@ -5,6 +5,6 @@ use Rattle.responses.proofs.queries.write_entries.Given as goal
 
 abbrev pub invariant-loop-slot : goal.invariant-loop-slot
 invariant-loop-slot l =
-    (take l.at l.area ++ query_entries l.unit l.left l.slot (drop l.slot l.tables.logins) ≡ query_entries l.unit l.room 0 l.tables.logins)
+    (take l.at l.area ++ query_entries l.unit l.left l.slot (drop l.slot l.tables.logins.entries) ≡ query_entries l.unit l.room 0 l.tables.logins.entries)
     × (drop l.at l.area ≡ drop l.at l.fn.area)
     × (l.at ≤ 12 * l.slot)

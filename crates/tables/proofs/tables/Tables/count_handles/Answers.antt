@@ -1,16 +1,12 @@
-use Rattle.std.proofs.Common.{arith, rules}
-use Rattle.std.proofs.lemmas.List.{at_drop_more, at_drop_all}
-use Rattle.std.proofs.lemmas.Bool.Decides.{nat_tests}
-use Rattle.logins.specs.Rows.{in_use, free_handle}
-use Rattle.tables.specs.Searches.{count}
+use Rattle.std.proofs.Common.{◌∙◌, rules}
+use Rattle.std.proofs.lemmas.Iterator.{YieldsList-from_slice}
+use Rattle.std.proofs.lemmas.Iterator.Consumers.{YieldsList-at, YieldsList-from_filter, count_from_yields_List}
+use Rattle.logins.specs.Rows.{in_use}
+use Rattle.tables.proofs.Counts.{counted}
 use Rattle.tables.proofs.tables.Tables.count_handles.Goals as goal
-
-pub loop-place-preserved : goal.loop-place-preserved
-loop-place-preserved c =
-    let e = at_drop_more (count in_use) c.args.self.now.handles c.loop-place.place free_handle (search rules) in
-    grind (arith, nat_tests)
+use borrow.Author.Tests.{tests}
 
 pub returns : goal.returns
 returns c =
-    let e = at_drop_all (count in_use) c.args.self.now.handles c.loop-place.place (search rules) in
-    grind (arith, nat_tests)
+    count_from_yields_List c.filter.result _ c.count.ensures.ran (YieldsList-from_filter _ in_use (YieldsList-at c.filter.ensures.source (YieldsList-from_slice c.args.self.now.handles.entries (cc))) c.filter.ensures.closure (λ x b q k. search (rules, tests)))
+    ∙ counted in_use c.args.self.now.handles.entries

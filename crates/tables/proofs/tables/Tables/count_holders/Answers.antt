@@ -1,17 +1,13 @@
-use Rattle.std.proofs.Common.{arith, rules}
-use Rattle.std.proofs.lemmas.List.{at_drop_more, at_drop_all}
-use Rattle.std.proofs.lemmas.Bool.Decides.{nat_tests}
-use Rattle.logins.specs.Logins.{free_row}
+use Rattle.std.proofs.Common.{◌∙◌, rules}
+use Rattle.std.proofs.lemmas.Iterator.{YieldsList-from_slice}
+use Rattle.std.proofs.lemmas.Iterator.Consumers.{YieldsList-at, YieldsList-from_filter, count_from_yields_List}
 use Rattle.logins.specs.Tests.{among}
-use Rattle.tables.specs.Searches.{count}
+use Rattle.tables.specs.Records.{mended}
+use Rattle.tables.proofs.Counts.{counted_sound}
 use Rattle.tables.proofs.tables.Tables.count_holders.Goals as goal
-
-pub loop-slot-preserved : goal.loop-slot-preserved
-loop-slot-preserved c =
-    let e = at_drop_more (count (among c.args.holders)) c.args.self.now.logins c.loop-slot.slot free_row (search rules) in
-    grind (arith, nat_tests)
+use borrow.Author.Tests.{tests}
 
 pub returns : goal.returns
 returns c =
-    let e = at_drop_all (count (among c.args.holders)) c.args.self.now.logins c.loop-slot.slot (search rules) in
-    grind (arith, nat_tests)
+    count_from_yields_List c.filter.result _ c.count.ensures.ran (YieldsList-from_filter _ (λ r. among c.args.holders (mended r)) (YieldsList-at c.filter.ensures.source (YieldsList-from_slice c.args.self.now.logins.entries (cc))) c.filter.ensures.closure (λ x b q k. search (rules, tests)))
+    ∙ counted_sound (among c.args.holders) c.args.self.now.logins.entries c.args.self.now.sound

@@ -1,22 +1,12 @@
-use Rattle.std.proofs.Common.{arith, rules}
-use Rattle.std.proofs.lemmas.List.{at_drop_more, at_drop_all}
-use Rattle.std.proofs.lemmas.Bool.Decides.{nat_tests}
-use Rattle.logins.specs.Rows.{free_handle}
+use Rattle.std.proofs.Common.{◌∙◌, rules}
+use Rattle.std.proofs.lemmas.Iterator.{YieldsList-from_slice}
+use Rattle.std.proofs.lemmas.Iterator.Search.{position_from_yields_List}
 use Rattle.logins.specs.Tests.{meant}
-use Rattle.tables.specs.Searches.{first}
+use Rattle.tables.proofs.Counts.{found_first}
 use Rattle.tables.proofs.tables.Tables.find_handle.Goals as goal
+use borrow.Author.Tests.{tests}
 
-pub returns-then-is_meant : goal.returns-then-is_meant
-returns-then-is_meant c =
-    let e = at_drop_more (first (meant c.args.login c.args.which) c.loop-place.place) c.args.self.now.handles c.loop-place.place free_handle (search rules) in
-    record { value = grind (arith, nat_tests); within = search rules }
-
-pub loop-place-preserved : goal.loop-place-preserved
-loop-place-preserved c =
-    let e = at_drop_more (first (meant c.args.login c.args.which) c.loop-place.place) c.args.self.now.handles c.loop-place.place free_handle (search rules) in
-    grind (arith, nat_tests)
-
-pub returns : goal.returns
-returns c =
-    let e = at_drop_all (first (meant c.args.login c.args.which) c.loop-place.place) c.args.self.now.handles c.loop-place.place (search rules) in
-    record { value = grind (arith, nat_tests); within = tt }
+pub returns-clause-value : goal.returns-clause-value
+returns-clause-value c =
+    position_from_yields_List (meant c.args.login c.args.which) _ _ _ c.position.ensures.ran (YieldsList-from_slice c.args.self.now.handles.entries (cc)) (λ x b q k. search (rules, tests))
+    ∙ found_first (meant c.args.login c.args.which) c.args.self.now.handles.entries

@@ -1,23 +1,15 @@
-use Rattle.std.proofs.Common.{List, Option, ap, ◌∙◌, rules}
-use Rattle.tables.specs.Books.{book_of, with_logins}
+use Rattle.std.proofs.Common.{rules, arith}
+use Rattle.logins.specs.Rows.{logins_size}
 use Rattle.tables.specs.Events.{reset_row}
-use Rattle.reader.specs.declared.ids.NodeId.{NodeId}
-use Rattle.logins.specs.Logins.{row_of, row_after}
-use Rattle.logins.specs.declared.rows.LoginEvent.TheVariants.{Reset}
-use Rattle.logins.specs.declared.rows.LoginRow.{LoginRow}
-use Rattle.tables.proofs.Sweeps.{done_all, logins_more}
+use Rattle.tables.proofs.Setting.{sound_each}
+use Rattle.tables.proofs.Sweeps.{rows_mapped}
 use Rattle.tables.proofs.tables.Tables.reset_logins.Goals as goal
 
-pub loop-slot-preserved : goal.loop-slot-preserved
-loop-slot-preserved g c =
-    let shows = g.B.Bus.model.shows c.args.bus.now in
-    logins_more (book_of c.args.self.now) (book_of c.loop-slot.self) (book_of c.put_login.new.self) c.loop-slot.slot (reset_row shows) (row_of c.after.result) (search rules) c.loop-slot.invariant
-    (
-    c.after.ensures ∙ ap (λ (o : Option NodeId). row_after (row_of c.login-login.result) (Reset o)) c.local_id-found.ensures
-    ∙ ap (reset_row shows) c.login-login.ensures
-    )
-    c.put_login.ensures
+pub invariant_of-self : goal.invariant_of-self
+invariant_of-self g c =
+    record { sound = sound_each _ logins_size c.change_each.new.self.size (λ k h. let e = c.change_each.ensures.entries k h in search rules) }
 
 pub returns : goal.returns
 returns g c =
-    c.loop-slot.invariant ∙ ap (λ (x : List LoginRow). with_logins (book_of c.args.self.now) x) (done_all (reset_row (g.B.Bus.model.shows c.args.bus.now)) c.args.self.now.logins c.loop-slot.slot (search rules))
+    let same = rows_mapped (reset_row (g.B.Bus.model.shows c.args.bus.now)) c.args.self.now.logins.entries c.change_each.new.self.entries logins_size c.args.self.now.logins.size c.change_each.new.self.size c.args.self.now.sound (λ k h. let e = c.change_each.ensures.entries k h in search rules) in
+    grind arith
