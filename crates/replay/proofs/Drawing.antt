@@ -3,9 +3,9 @@ use Rattle.std.proofs.Common.{◌≡◌, ℕ, ◌+◌, ◌<◌, ◌≤◌, List,
 use Rattle.std.proofs.lemmas.List.{append-nil, append_assoc, at_drop_more, at_drop_all}
 use Rattle.reader.specs.Refusals.{number}
 use Rattle.reader.specs.declared.refusal.Refusal.{Refusal}
+use Rattle.bus.specs.Meaning.{Answer}
 use Rattle.journal.specs.Entries.{Entry, entry, entries}
 use Rattle.journal.specs.declared.record.Record.{Record}
-use Rattle.rules.specs.declared.calls.Answer.{Answer}
 use Rattle.replay.specs.Cabinets.{Cabinet, CabinetCall, answer, after, answers}
 use Rattle.replay.specs.Calls.{with_call, call_of, calls_of}
 use Rattle.replay.specs.Drawing.{next_number, answers_left, numbers_from}

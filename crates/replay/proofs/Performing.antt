@@ -12,7 +12,6 @@ use Rattle.access.specs.Pairs.{pair_model}
 use Rattle.access.specs.Stops.{stop_model}
 use Rattle.rules.specs.Scenes.{Outcome, refuse, grant, stored}
 use Rattle.rules.specs.Serving.{outcome}
-use Rattle.rules.specs.declared.calls.Answer.TheVariants.{Refused}
 use Rattle.rules.specs.declared.calls.Call.TheVariants.{Request as Asked}
 use Rattle.agent.specs.Answers.{Answers, checked, outcome_of, after_answer, rule}
 use Rattle.agent.specs.Exchanges.{orb_fits, status_of, answered_with}
@@ -32,14 +31,14 @@ use Rattle.replay.proofs.Steps.{steps_told}
 
 -- an ORB address that does not fit leaves the cabinet
 pub turned_away : (c : Cabinet) (source : NodeId) (address : ℕ) (orb : List ℕ) (r : Refusal) → Err r ≡ signalled source address
-    → (quiet (Refused r) ≡ effect c (request source address orb)) × (c ≡ after_record c (call_of (request source address orb)))
+    → (quiet (Err r) ≡ effect c (request source address orb)) × (c ≡ after_record c (call_of (request source address orb)))
 turned_away c source address orb r e = go (orb_fits address) e
   where
     go : (b : Bool) → Err r ≡ cond b (Ok (exchange source address)) (Err (OrbAddress address))
-        → (quiet (Refused r) ≡ request_effect c source address (cond b (request_read orb) (Err (OrbAddress address))))
+        → (quiet (Err r) ≡ request_effect c source address (cond b (request_read orb) (Err (OrbAddress address))))
         × (c ≡ after_record c (cond b (asked source (request_read orb)) (Err (OrbAddress address))))
     go true e = absurd (let z : ◌≡◌ {A = ℕ} 0 1 = cc in omega arith)
-    go false e = let same : r ≡ OrbAddress address = cc in (ap (λ (x : Refusal). quiet (Refused x)) same, refl)
+    go false e = let same : r ≡ OrbAddress address = cc in (ap (λ (x : Refusal). quiet (Err x)) same, refl)
 
 -- how a request was served, as parts of its effect
 abbrev pub refusal_told : Result ℕ Refusal → Option Refusal

@@ -6,11 +6,10 @@ use Rattle.reader.specs.declared.ids.NodeId.{NodeId}
 use Rattle.reader.specs.declared.refusal.Refusal.{Refusal}
 use Rattle.reader.specs.declared.refusal.Refusal.TheVariants.{OrbAddress}
 use Rattle.reader.specs.declared.request.Request.{Request}
+use Rattle.bus.specs.Meaning.{Answer}
 use Rattle.responses.specs.Writing.{smallest_area}
 use Rattle.rules.specs.Scenes.{Outcome, answer_of, response, stored}
 use Rattle.rules.specs.Serving.{outcome}
-use Rattle.rules.specs.declared.calls.Answer.{Answer}
-use Rattle.rules.specs.declared.calls.Answer.TheVariants.{Granted, Refused}
 use Rattle.agent.specs.Exchanges.{orb_fits}
 use Rattle.agent.specs.Targets.{snapshot_of}
 use Rattle.agent.specs.declared.exchange.Signalled.{Signalled}
@@ -26,8 +25,8 @@ abbrev pub data_of : Driven → Cabinet
 data_of d = cabinet_of (snapshot_of d.target)
 
 abbrev pub refusal_in : Answer → Option Refusal
-refusal_in Granted = None
-refusal_in (Refused refusal) = Some refusal
+refusal_in (Ok done) = None
+refusal_in (Err refusal) = Some refusal
 
 -- a response area before a request is served
 abbrev pub blank : List ℕ
@@ -61,7 +60,7 @@ signalled source address = cond (orb_fits address) (Ok (exchange source address)
 
 abbrev pub request_effect : Cabinet → NodeId → ℕ → Result Request Refusal → Effect
 request_effect c source address (Ok q) = served address q (outcome (scene c) source q)
-request_effect c source address (Err refusal) = quiet (Refused refusal)
+request_effect c source address (Err refusal) = quiet (Err refusal)
 
 -- what comes of a record
 abbrev pub effect : Cabinet → Entry → Effect

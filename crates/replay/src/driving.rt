@@ -42,12 +42,8 @@ impl Effect {
     fn quiet(answer: Answer) -> Effect
         ensures { result ≡ quiet answer }
     {
-        let refusal = match answer {
-            Answer::Granted => None,
-            Answer::Refused(refusal) => Some(refusal),
-        };
         Effect {
-            refusal,
+            refusal: answer.err(),
             response: [0; SMALLEST_AREA],
             stored: 0,
             status: None,
@@ -101,7 +97,7 @@ impl Cabinet {
     {
         let signalled = match signal(source, orb_address) {
             Ok(signalled) => signalled,
-            Err(refusal) => return Effect::quiet(Answer::Refused(refusal)),
+            Err(refusal) => return Effect::quiet(Err(refusal)),
         };
         let mut response = [0; SMALLEST_AREA];
         let mut link = 0;
@@ -148,7 +144,7 @@ impl Cabinet {
         }
         match call_of(record) {
             Ok(call) => Effect::quiet(self.make(call)),
-            Err(refusal) => Effect::quiet(Answer::Refused(refusal)),
+            Err(refusal) => Effect::quiet(Err(refusal)),
         }
     }
 }

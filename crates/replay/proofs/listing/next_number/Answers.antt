@@ -1,7 +1,7 @@
 use Rattle.std.proofs.Common.{List, drop, Ok, Result, sym, ap, ◌∙◌, arith, length-drop, rules}
 use Rattle.std.proofs.lemmas.List.{nil_from_length, take_all}
 use Rattle.reader.specs.declared.refusal.Refusal.{Refusal}
-use Rattle.rules.specs.declared.calls.Answer.{Answer}
+use Rattle.bus.specs.Meaning.{Answer}
 use Rattle.replay.specs.Cabinets.{CabinetCall}
 use Rattle.replay.specs.Drawing.{next_number, answers_left}
 use Rattle.replay.proofs.listing.next_number.Goals as goal
