@@ -6,11 +6,11 @@ ghost use Rattle.rules.specs.Scenes.{stored};
 ghost use Rattle.rules.specs.Serving.{outcome};
 ghost use Rattle.rules.specs.declared.calls.Call.TheVariants.{Request as Asked};
 ghost use Rattle.agent.specs.Answers.{Answers};
-ghost use Rattle.agent.specs.Exchanges.{status_of};
 ghost use Rattle.management.specs.Serving.{Serves, answer_told};
 ghost use Rattle.agent.specs.Targets.{snapshot_of};
 
 use crate::exchange::{Answered, Signalled};
+use crate::steps::status;
 use crate::target::Target;
 use access::Access;
 use bus::Bus;
@@ -60,15 +60,6 @@ impl<'a> LinkGuard<'a> {
         ensures step { Step B.Bus.model A.Access.model (snapshot_of target.old) (Asked source request.now) (answer_told result) (snapshot_of target.new) }
     {
         target.serve(source, request, response)
-    }
-}
-
-fn status(served: Result<usize, Refusal>) -> u8
-    ensures { result ≡ status_of served }
-{
-    match served {
-        Ok(_) => 0,
-        Err(refusal) => refusal.number(),
     }
 }
 

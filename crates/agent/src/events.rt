@@ -8,6 +8,7 @@ ghost use Rattle.rules.specs.Serving.{outcome};
 ghost use Rattle.rules.specs.declared.calls.Call.TheVariants.{Request as Asked, BusReset, NetUpdate, Gap, Tick, AccessChange, BusNote, AccessNote};
 ghost use Rattle.management.specs.Serving.{Serves, in_area, answer_told};
 ghost use Rattle.agent.specs.Targets.{snapshot_of, new_snapshot};
+ghost use Rattle.bus.specs.Meaning.{granted};
 
 use crate::target::Target;
 use access::Access;
@@ -16,7 +17,6 @@ use management::parts::ManagementAgent;
 use reader::ids::{Eui64, NodeId};
 use reader::refusal::Refusal;
 use reader::request::Request;
-ghost use Rattle.bus.specs.Meaning.{granted};
 use tables::tables::Tables;
 
 impl<B: Bus, A: Access> Target<B, A> {

@@ -1,5 +1,6 @@
 // A bench with a target and some stations: A, B and C, all admitted to every unit.
 use access::pairs::{PairNote, PairTable};
+use agent::steps::status;
 use agent::target::Target;
 use bus::local::LocalBus;
 use bus::portal::Portal;
@@ -97,14 +98,6 @@ pub fn release(login: u16, handle: u16) -> Request {
     let mut asked = request(Function::NodeHandle, login);
     asked.node_or_handle = handle;
     asked
-}
-
-// 0, or the number of the refusal.
-pub fn status(served: Result<usize, Refusal>) -> u8 {
-    match served {
-        Ok(_) => 0,
-        Err(refusal) => refusal.number(),
-    }
 }
 
 impl Bench {

@@ -10,13 +10,13 @@ use Rattle.bus.specs.Meaning.{Answer}
 use Rattle.responses.specs.Writing.{smallest_area}
 use Rattle.rules.specs.Scenes.{Outcome, answer_of, response, stored}
 use Rattle.rules.specs.Serving.{outcome}
-use Rattle.agent.specs.Exchanges.{orb_fits}
+use Rattle.agent.specs.Exchanges.{orb_fits, status_of}
 use Rattle.agent.specs.Targets.{snapshot_of}
 use Rattle.agent.specs.declared.exchange.Signalled.{Signalled}
 use Rattle.journal.specs.Entries.{Entry, request, bus_reset, net_update, gap, tick, access_change, bus_note, pair_note, stop_note}
 use Rattle.replay.specs.Cabinets.{Cabinet, cabinet_of, scene}
 use Rattle.replay.specs.Calls.{call_of}
-use Rattle.replay.specs.Listings.{drawn, answer_number}
+use Rattle.replay.specs.Listings.{drawn}
 use Rattle.replay.specs.declared.driving.Cabinet.{Cabinet as Driven}
 use Rattle.replay.specs.declared.driving.Effect.{Effect}
 
@@ -47,7 +47,7 @@ served address q o =
       refusal = refusal_in (answer_of o);
       response = stored blank o;
       stored = length (response o);
-      status = status_block address q.notify (answer_number (answer_of o));
+      status = status_block address q.notify (status_of (answer_of o));
     }
 
 -- a first exchange, with the station at this node

@@ -54,23 +54,23 @@ impl Effect {
 fn signal(source: NodeId, orb_address: u64) -> Result<Signalled, Refusal>
     ensures { result ≡ signalled source orb_address }
 {
-    match Idle::new().signal(source, orb_address) {
-        Ok(signalled) => Ok(signalled),
-        Err((refusal, idle)) => {
+    Idle::new()
+        .signal(source, orb_address)
+        .map_err(|(refusal, idle)| {
             let _ = idle.end();
-            Err(refusal)
-        }
-    }
+            refusal
+        })
 }
 
-// The status block, if one was written: its first byte is 1.
+// The status block, if one was written.
 fn close(answered: Answered) -> Option<[u8; 8]>
     ensures { result ≡ status_block answered.orb_address answered.notify answered.status }
 {
+    let told = answered.tells();
     let mut area = [0; 8];
     let idle = answered.close(&mut area).unwrap();
     let _ = idle.end();
-    if area[0] == 1 { Some(area) } else { None }
+    told.then_some(area)
 }
 
 impl Cabinet {

@@ -10,7 +10,7 @@ pub returns-in-len1-up : goal.returns-in-len1-up
 returns-in-len1-up c =
     let left = c.args.left.now in
     record {
-      number = c.answer_number.ensures ∙ ap (λ (r : Result CabinetCall Refusal). next_number r left) c.in-Ok.ensures;
+      number = c.status.ensures ∙ ap (λ (r : Result CabinetCall Refusal). next_number r left) c.in-Ok.ensures;
       rest = take_all _ (drop 1 left) (omega (arith, length-drop 1 left)) ∙ ap (λ (r : Result CabinetCall Refusal). answers_left r left) c.in-Ok.ensures;
     }
 
