@@ -1,19 +1,20 @@
 -- The account of a journal that is run through a new cabinet. Assumes nothing.
 use Rattle.std.specs.Prelude.{◌≡◌, ℕ, Bool, List, ◌++◌, length, Option}
+use Rattle.std.specs.Result.{result_err}
 use Rattle.reader.specs.declared.refusal.Refusal.{Refusal}
 use Rattle.tables.specs.Books.{Book}
 use Rattle.journal.specs.Entries.{Entry}
 use Rattle.journal.specs.Journals.{Reads}
 use Rattle.words.specs.Lines.{end_text}
 use Rattle.replay.specs.Cabinets.{Cabinet, new_cabinet}
-use Rattle.replay.specs.Driving.{effect}
+use Rattle.replay.specs.Driving.{response_bytes, effect}
 use Rattle.replay.specs.declared.driving.Effect.{Effect}
 use Rattle.effects.specs.Account.{account_text}
 use Rattle.accounts.specs.Journeys.{told_all}
-use Rattle.accounts.specs.Traces.{after_entry, response_bytes}
+use Rattle.accounts.specs.Traces.{after_entry}
 
 abbrev pub effect_account : Bool → ℕ → Entry → Effect → Book → List ℕ
-effect_account shown count e did book = account_text shown count e did.refusal (response_bytes did) book
+effect_account shown count e did book = account_text shown count e (result_err did.answer) (response_bytes did) book
 
 -- of a record that comes to a cabinet
 abbrev pub record_account : Bool → ℕ → Cabinet → Entry → List ℕ

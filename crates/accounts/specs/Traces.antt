@@ -1,5 +1,6 @@
 -- The trace of a journal that is run through a new cabinet. Assumes nothing.
-use Rattle.std.specs.Prelude.{◌≡◌, ℕ, ◌+◌, cond, List, [], ◌++◌, length, take, Some, None, codes, decimal, Option, ◌==◌}
+use Rattle.std.specs.Prelude.{◌≡◌, ℕ, ◌+◌, cond, List, [], ◌++◌, length, Some, None, codes, decimal, Option, ◌==◌}
+use Rattle.std.specs.Result.{result_err}
 use Rattle.reader.specs.Refusals.{number, value}
 use Rattle.reader.specs.declared.refusal.Refusal.{Refusal}
 use Rattle.tables.specs.Books.{Book}
@@ -7,7 +8,7 @@ use Rattle.journal.specs.Entries.{Entry}
 use Rattle.journal.specs.Journals.{Reads}
 use Rattle.replay.specs.Cabinets.{Cabinet, new_cabinet}
 use Rattle.replay.specs.Calls.{call_of}
-use Rattle.replay.specs.Driving.{effect}
+use Rattle.replay.specs.Driving.{response_bytes, effect}
 use Rattle.replay.specs.Listings.{after_record}
 use Rattle.replay.specs.declared.driving.Effect.{Effect}
 use Rattle.accounts.specs.Journeys.{after_all, told_all}
@@ -17,16 +18,13 @@ use Rattle.effects.specs.Trace.{trace_text}
 abbrev pub after_entry : Cabinet → Entry → Cabinet
 after_entry c e = after_record c (call_of e)
 
--- the bytes of a response that are stored, and those of a status block
-abbrev pub response_bytes : Effect → List ℕ
-response_bytes e = take e.stored e.response
-
+-- the bytes of a status block
 abbrev pub status_bytes : Option (List ℕ) → List ℕ
 status_bytes (Some block) = block
 status_bytes None = []
 
 abbrev pub effect_text : ℕ → Effect → Book → List ℕ
-effect_text count e book = trace_text count e.refusal (response_bytes e) (status_bytes e.status) book
+effect_text count e book = trace_text count (result_err e.answer) (response_bytes e) (status_bytes e.status) book
 
 -- what a record did to a cabinet, and its tables after it
 abbrev pub record_trace : ℕ → Cabinet → Entry → List ℕ

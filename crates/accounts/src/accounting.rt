@@ -14,7 +14,6 @@ use journal::reading::read_journal;
 use journal::record::Record;
 use reader::refusal::Refusal;
 use replay::driving::{Cabinet, Effect};
-use responses::writing::SMALLEST_AREA;
 use std::alloc::{AllocError, Global};
 use tables::tables::Tables;
 use words::lines::line;
@@ -29,8 +28,8 @@ fn account_effect(
 ) -> Result<String, AllocError>
     ensures { IfOk result (λ s. string_bytes s ≡ effect_account shown count (entry «record».entry) effect (book_of tables.now)) }
 {
-    let refusal = effect.refusal;
-    let response = &effect.response[0..effect.stored.min(SMALLEST_AREA)];
+    let refusal = effect.answer.err();
+    let response = effect.response();
     account_lines(heap, shown, count, record, refusal, response, tables)
 }
 

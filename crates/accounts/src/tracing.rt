@@ -11,7 +11,6 @@ use journal::reading::read_journal;
 use journal::record::Record;
 use reader::refusal::Refusal;
 use replay::driving::{Cabinet, Effect};
-use responses::writing::SMALLEST_AREA;
 use std::alloc::{AllocError, Global};
 use tables::tables::Tables;
 
@@ -23,9 +22,9 @@ fn trace_effect(
 ) -> Result<String, AllocError>
     ensures { IfOk result (λ s. string_bytes s ≡ effect_text count effect (book_of tables.now)) }
 {
-    let refusal = effect.refusal;
+    let refusal = effect.answer.err();
     let status = effect.status;
-    let response = &effect.response[0..effect.stored.min(SMALLEST_AREA)];
+    let response = effect.response();
     match status {
         Some(block) => trace_line(heap, count, refusal, response, &block, tables),
         None => trace_line(heap, count, refusal, response, &[], tables),

@@ -1,7 +1,6 @@
 -- Areas that are large enough, and the exchange of a request that is served. Assumes nothing.
 use Rattle.std.proofs.Common.{◌≡◌, ℕ, ◌≤◌, List, length, Ok, Result, sym, ap, ◌∙◌, subst, arith}
 use Rattle.std.proofs.lemmas.Bool.Decides.{nat_tests}
-use Rattle.reader.specs.Requests.{request_read}
 use Rattle.reader.specs.declared.refusal.Refusal.{Refusal}
 use Rattle.reader.specs.declared.request.Request.{Request}
 use Rattle.bus.specs.Meaning.{BusModel}
@@ -17,9 +16,6 @@ use Rattle.agent.specs.declared.exchange.Signalled.{Signalled}
 
 pub in_area_fits : (area : List ℕ) (o : Outcome) → smallest_area ≤ length area → in_area area o ≡ o
 in_area_fits area o h = grind (arith, nat_tests)
-
-pub checked_fits : (bytes area : List ℕ) (q : Request) → request_read bytes ≡ Ok q → smallest_area ≤ length area → checked bytes area ≡ Ok q
-checked_fits bytes area q e h = grind (arith, nat_tests)
 
 module _ {B A N : Type 0} (m : BusModel B) (n : AccessModel A N) (s : Signalled) (bytes area : List ℕ) (q : Request) (x y : Snapshot B A) (after : List ℕ) (served : Result ℕ Refusal) where
   pub answers : checked bytes area ≡ Ok q → Serves x (rule m n x s q) served y → after ≡ stored area (rule m n x s q)

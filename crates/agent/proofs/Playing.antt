@@ -1,11 +1,10 @@
 -- One more call of a run, and the law after every front part of it. Assumes nothing.
 use Rattle.std.proofs.Common.{◌≡◌, ℕ, ◌+◌, ◌<◌, List, [], ◌∷◌, ◌++◌, reverse, length, get_or, take, sym, refl, ap, ◌∙◌, subst}
 use Rattle.std.proofs.lemmas.List.{take_more, reverse-append}
-use Rattle.bus.specs.Meaning.{BusModel}
+use Rattle.bus.specs.Meaning.{Answer, BusModel}
 use Rattle.access.specs.Meaning.{AccessModel}
 use Rattle.rules.specs.Law.{LawAfterRuns}
 use Rattle.rules.specs.Runs.{Snapshot, Event, Step, Run, New}
-use Rattle.rules.specs.declared.calls.Answer.{Answer}
 use Rattle.rules.specs.declared.calls.Call.{Call}
 use Rattle.agent.specs.Plays.{Plays, LawAbiding}
 

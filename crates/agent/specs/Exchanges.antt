@@ -20,7 +20,7 @@ after_signal i source address =
     cond (orb_fits address) (Ok (record { closed = i.closed; source = source; orb_address = address })) (Err (OrbAddress address, i))
 
 -- 0, or the number of the refusal
-abbrev pub status_of : Result ℕ Refusal → ℕ
+abbrev pub status_of : {T : Type 0} → Result T Refusal → ℕ
 status_of (Ok n) = 0
 status_of (Err refusal) = number refusal
 

@@ -1,10 +1,9 @@
 -- Calls made one after another, from a new target on. Assumes nothing.
 use Rattle.std.specs.Prelude.{◌≡◌, ◌+◌, List, ◌++◌, map, reverse}
-use Rattle.bus.specs.Meaning.{BusModel}
+use Rattle.bus.specs.Meaning.{Answer, BusModel}
 use Rattle.access.specs.Meaning.{AccessModel}
 use Rattle.rules.specs.Law.{LawAfter}
 use Rattle.rules.specs.Runs.{Snapshot, Event, Run, now_at}
-use Rattle.rules.specs.declared.calls.Answer.{Answer}
 use Rattle.rules.specs.declared.calls.Call.{Call}
 
 module _ {B A N : Type 0} (m : BusModel B) (n : AccessModel A N) where

@@ -1,16 +1,16 @@
 // Answering an exchange, with the link byte at 1 for as long as it takes.
-ghost use Rattle.std.specs.Prelude.{◌≡◌, ◌≤◌, length};
+ghost use Rattle.std.specs.Prelude.{◌≡◌, ◌≤◌, length, IsOk};
 ghost use Rattle.responses.specs.Writing.{smallest_area};
 ghost use Rattle.rules.specs.Runs.{Step, scene};
 ghost use Rattle.rules.specs.Scenes.{stored};
 ghost use Rattle.rules.specs.Serving.{outcome};
 ghost use Rattle.rules.specs.declared.calls.Call.TheVariants.{Request as Asked};
-ghost use Rattle.agent.specs.Answers.{Answers};
-ghost use Rattle.agent.specs.Exchanges.{status_of};
+ghost use Rattle.agent.specs.Answers.{checked, Answers};
 ghost use Rattle.management.specs.Serving.{Serves, answer_told};
 ghost use Rattle.agent.specs.Targets.{snapshot_of};
 
 use crate::exchange::{Answered, Signalled};
+use crate::steps::status;
 use crate::target::Target;
 use access::Access;
 use bus::Bus;
@@ -63,13 +63,16 @@ impl<'a> LinkGuard<'a> {
     }
 }
 
-fn status(served: Result<usize, Refusal>) -> u8
-    ensures { result ≡ status_of served }
+// The request to be served: its length is tested first, and then that of the response area.
+fn checked(request: &[u8], response: &[u8]) -> Result<Request, Refusal>
+    ensures value { result ≡ checked request.now response.now }
+    ensures fits { IsOk result → smallest_area ≤ length response.now }
 {
-    match served {
-        Ok(_) => 0,
-        Err(refusal) => refusal.number(),
+    let fields = Request::read(request)?;
+    if response.len() < SMALLEST_AREA {
+        return Err(Refusal::ResponseArea(response.len()));
     }
+    Ok(fields)
 }
 
 impl Signalled {
@@ -87,13 +90,11 @@ impl Signalled {
         ensures link { link.new ≡ link.old }
     {
         let guard = LinkGuard::hold(link);
-        let fields = match Request::read(request) {
+        // A closure for map_err would keep the exchange, which is taken apart below.
+        let fields = match checked(request, response) {
             Ok(fields) => fields,
             Err(refusal) => return Err((refusal, self)),
         };
-        if response.len() < SMALLEST_AREA {
-            return Err((Refusal::ResponseArea(response.len()), self));
-        }
         let Signalled {
             closed,
             source,

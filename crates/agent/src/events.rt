@@ -2,13 +2,13 @@
 ghost use Rattle.std.specs.Prelude.{◌≡◌, ◌≤◌, length};
 ghost use Rattle.tables.specs.Books.{book_of};
 ghost use Rattle.responses.specs.Writing.{smallest_area};
-ghost use Rattle.rules.specs.Runs.{Step, note_answer, scene};
+ghost use Rattle.rules.specs.Runs.{Step, scene};
 ghost use Rattle.rules.specs.Scenes.{stored};
 ghost use Rattle.rules.specs.Serving.{outcome};
-ghost use Rattle.rules.specs.declared.calls.Answer.TheVariants.{Granted};
 ghost use Rattle.rules.specs.declared.calls.Call.TheVariants.{Request as Asked, BusReset, NetUpdate, Gap, Tick, AccessChange, BusNote, AccessNote};
 ghost use Rattle.management.specs.Serving.{Serves, in_area, answer_told};
 ghost use Rattle.agent.specs.Targets.{snapshot_of, new_snapshot};
+ghost use Rattle.bus.specs.Meaning.{granted};
 
 use crate::target::Target;
 use access::Access;
@@ -53,14 +53,14 @@ impl<B: Bus, A: Access> Target<B, A> {
     }
 
     pub fn bus_reset(&mut self)
-        ensures { Step B.Bus.model A.Access.model (snapshot_of self.old) BusReset Granted (snapshot_of self.new) }
+        ensures { Step B.Bus.model A.Access.model (snapshot_of self.old) BusReset granted (snapshot_of self.new) }
     {
         self.agent.bus.reset();
         self.agent.tables.reset(&self.agent.bus);
     }
 
     pub fn net_update(&mut self)
-        ensures { Step B.Bus.model A.Access.model (snapshot_of self.old) NetUpdate Granted (snapshot_of self.new) }
+        ensures { Step B.Bus.model A.Access.model (snapshot_of self.old) NetUpdate granted (snapshot_of self.new) }
     {
         self.agent.bus.net_update();
         self.agent.tables.net_update();
@@ -68,20 +68,20 @@ impl<B: Bus, A: Access> Target<B, A> {
 
     /// A gap: from the first after a reset or a net update on, ticks count.
     pub fn gap(&mut self)
-        ensures { Step B.Bus.model A.Access.model (snapshot_of self.old) Gap Granted (snapshot_of self.new) }
+        ensures { Step B.Bus.model A.Access.model (snapshot_of self.old) Gap granted (snapshot_of self.new) }
     {
         self.agent.tables.gap();
     }
 
     pub fn tick(&mut self)
-        ensures { Step B.Bus.model A.Access.model (snapshot_of self.old) Tick Granted (snapshot_of self.new) }
+        ensures { Step B.Bus.model A.Access.model (snapshot_of self.old) Tick granted (snapshot_of self.new) }
     {
         self.agent.tables.tick();
     }
 
     /// An access change: the list's notes become true, and whoever it no longer admits is logged out.
     pub fn access_change(&mut self)
-        ensures { Step B.Bus.model A.Access.model (snapshot_of self.old) AccessChange Granted (snapshot_of self.new) }
+        ensures { Step B.Bus.model A.Access.model (snapshot_of self.old) AccessChange granted (snapshot_of self.new) }
     {
         self.agent.list.change();
         self.agent.tables.access_change(&self.agent.list);
@@ -89,14 +89,14 @@ impl<B: Bus, A: Access> Target<B, A> {
 
     /// Notes who is at a node ID in the next topology.
     pub fn bus_note(&mut self, node: NodeId, eui: Option<Eui64>) -> Result<(), Refusal>
-        ensures { Step B.Bus.model A.Access.model (snapshot_of self.old) (BusNote node eui) (note_answer result) (snapshot_of self.new) }
+        ensures { Step B.Bus.model A.Access.model (snapshot_of self.old) (BusNote node eui) result (snapshot_of self.new) }
     {
         self.agent.bus.note(node, eui)
     }
 
     /// Notes something for the next access change.
     pub fn access_note(&mut self, note: A::Note) -> Result<(), Refusal>
-        ensures { Step B.Bus.model A.Access.model (snapshot_of self.old) (AccessNote note) (note_answer result) (snapshot_of self.new) }
+        ensures { Step B.Bus.model A.Access.model (snapshot_of self.old) (AccessNote note) result (snapshot_of self.new) }
     {
         self.agent.list.note(note)
     }

@@ -1,5 +1,5 @@
-// The three states of an exchange with a station. What moves one to the next stands apart, with the definitions that
-// name these types.
+// The three states of an exchange with a station: moved from one to the next, and of plain numbers, by a rule of the
+// project. What moves one to the next stands apart, with the definitions that name these types.
 use reader::ids::NodeId;
 
 /// An exchange that waits for a signal. Its only next calls are `signal` and `end`.

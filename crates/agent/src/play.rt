@@ -1,14 +1,12 @@
 // Any call, and any calls one after another from a new target on, under the law.
-ghost use Rattle.std.specs.Prelude.{◌≡◌, IfOk};
-ghost use Rattle.rules.specs.Runs.{Step, note_answer};
+ghost use Rattle.std.specs.Prelude.{IfOk};
+ghost use Rattle.rules.specs.Runs.{Step};
 ghost use Rattle.agent.specs.Plays.{LawAbiding};
-ghost use Rattle.management.specs.Serving.{answer_told};
 ghost use Rattle.agent.specs.Targets.{snapshot_of, new_snapshot};
 
 use crate::target::Target;
 use access::Access;
 use bus::Bus;
-use reader::refusal::Refusal;
 use responses::writing::SMALLEST_AREA;
 use rules::calls::{Answer, Call};
 use rules::laws::law_holds_over_every_run;
@@ -21,24 +19,6 @@ pub struct Played<B: Bus, A: Access> {
     pub answers: Vec<Answer>,
 }
 
-fn of_request(served: Result<usize, Refusal>) -> Answer
-    ensures { result ≡ answer_told served }
-{
-    match served {
-        Ok(_) => Answer::Granted,
-        Err(refusal) => Answer::Refused(refusal),
-    }
-}
-
-fn of_note(noted: Result<(), Refusal>) -> Answer
-    ensures { result ≡ note_answer noted }
-{
-    match noted {
-        Ok(()) => Answer::Granted,
-        Err(refusal) => Answer::Refused(refusal),
-    }
-}
-
 impl<B: Bus, A: Access> Target<B, A> {
     /// Makes a call; the response of a request is let go.
     pub fn make(&mut self, call: Call<A::Note>) -> Answer
@@ -47,17 +27,17 @@ impl<B: Bus, A: Access> Target<B, A> {
         match call {
             Call::Request(source, request) => {
                 let mut response = [0; SMALLEST_AREA];
-                return of_request(self.serve(source, &request, &mut response));
+                self.serve(source, &request, &mut response)?;
             }
-            Call::BusNote(node, eui) => return of_note(self.bus_note(node, eui)),
-            Call::AccessNote(note) => return of_note(self.access_note(note)),
+            Call::BusNote(node, eui) => self.bus_note(node, eui)?,
+            Call::AccessNote(note) => self.access_note(note)?,
             Call::BusReset => self.bus_reset(),
             Call::NetUpdate => self.net_update(),
             Call::Gap => self.gap(),
             Call::Tick => self.tick(),
             Call::AccessChange => self.access_change(),
         }
-        Answer::Granted
+        Ok(())
     }
 }
 

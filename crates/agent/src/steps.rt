@@ -1,6 +1,6 @@
 // An exchange with a station: signal, answer, close. A refusal hands the same state back.
 ghost use Rattle.std.specs.Prelude.{◌≡◌};
-ghost use Rattle.agent.specs.Exchanges.{orb_fits, after_signal, after_close, closed_area};
+ghost use Rattle.agent.specs.Exchanges.{orb_fits, status_of, tells, after_signal, after_close, closed_area};
 
 use crate::exchange::{Answered, Idle, Signalled};
 use reader::ids::NodeId;
@@ -14,6 +14,16 @@ pub fn orb_fits(orb_address: u64) -> bool
     ensures { result ≡ orb_fits orb_address }
 {
     orb_address <= LAST_ORB && orb_address % 4 == 0
+}
+
+/// The status of a request that was answered: 0, or the number of the refusal.
+pub fn status<T: Drop>(answered: Result<T, Refusal>) -> u8
+    ensures { result ≡ status_of answered }
+{
+    match answered {
+        Ok(_) => 0,
+        Err(refusal) => refusal.number(),
+    }
 }
 
 impl Idle {
@@ -48,7 +58,14 @@ impl Idle {
 }
 
 impl Answered {
-    /// Writes the status block, if the request asks for it or was refused.
+    /// Whether a status block is to be written: the request asks for it, or was refused.
+    pub fn tells(&self) -> bool
+        ensures { result ≡ tells self.now }
+    {
+        self.notify || self.status != 0
+    }
+
+    /// Writes the status block, if it tells one.
     pub fn close(self, area: &mut [u8]) -> Result<Idle, (Refusal, Answered)>
         ensures value { result ≡ after_close self area.old }
         ensures area { area.new ≡ closed_area self area.old }
@@ -56,13 +73,14 @@ impl Answered {
         if area.len() < 8 {
             return Err((Refusal::StatusArea(area.len()), self));
         }
+        let told = self.tells();
         let Answered {
             closed,
             orb_address,
             status,
-            notify,
+            notify: _,
         } = self;
-        if notify || status != 0 {
+        if told {
             let _ = write_status(area, status, orb_address);
         }
         Ok(Idle {

@@ -1,5 +1,6 @@
 // A bench with a target and some stations: A, B and C, all admitted to every unit.
 use access::pairs::{PairNote, PairTable};
+use agent::steps::status;
 use agent::target::Target;
 use bus::local::LocalBus;
 use bus::portal::Portal;
@@ -53,22 +54,25 @@ pub fn login(unit: u16) -> Request {
 }
 
 pub fn exclusive(unit: u16) -> Request {
-    let mut asked = login(unit);
-    asked.exclusive_or_allocate = true;
-    asked
+    Request {
+        exclusive_or_allocate: true,
+        ..login(unit)
+    }
 }
 
 pub fn aware(unit: u16) -> Request {
-    let mut asked = login(unit);
-    asked.aware = true;
-    asked
+    Request {
+        aware: true,
+        ..login(unit)
+    }
 }
 
 pub fn update(login: u16, reconnect: u8) -> Request {
-    let mut asked = request(Function::Login, login);
-    asked.update = true;
-    asked.reconnect = reconnect;
-    asked
+    Request {
+        update: true,
+        reconnect,
+        ..request(Function::Login, login)
+    }
 }
 
 pub fn reconnect(login: u16) -> Request {
@@ -80,30 +84,25 @@ pub fn logout(login: u16) -> Request {
 }
 
 pub fn query(unit: u16, length: u16) -> Request {
-    let mut asked = request(Function::QueryLogins, unit);
-    asked.response_length = length;
-    asked
+    Request {
+        response_length: length,
+        ..request(Function::QueryLogins, unit)
+    }
 }
 
 pub fn allocate(login: u16, eui: u64, node: u16) -> Request {
-    let mut asked = request(Function::NodeHandle, login);
-    asked.exclusive_or_allocate = true;
-    asked.eui_64 = Eui64(eui);
-    asked.node_or_handle = node;
-    asked
+    Request {
+        exclusive_or_allocate: true,
+        eui_64: Eui64(eui),
+        node_or_handle: node,
+        ..request(Function::NodeHandle, login)
+    }
 }
 
 pub fn release(login: u16, handle: u16) -> Request {
-    let mut asked = request(Function::NodeHandle, login);
-    asked.node_or_handle = handle;
-    asked
-}
-
-// 0, or the number of the refusal.
-pub fn status(served: Result<usize, Refusal>) -> u8 {
-    match served {
-        Ok(_) => 0,
-        Err(refusal) => refusal.number(),
+    Request {
+        node_or_handle: handle,
+        ..request(Function::NodeHandle, login)
     }
 }
 

@@ -1,6 +1,7 @@
 // Whole exchanges: what the link byte and the areas hold afterwards.
 use crate::bench::*;
 use agent::exchange::{Idle, Signalled};
+use agent::steps::status;
 use reader::ids::NodeId;
 use responses::writing::SMALLEST_AREA;
 

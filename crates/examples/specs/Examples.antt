@@ -1,5 +1,5 @@
 -- The worked examples: stations A and B at a cabinet, both admitted to unit 1. Assumes nothing.
-use Rattle.std.specs.Prelude.{◌≡◌, ℕ, zero, suc, Bool, true, false, cond, ◌&&◌, ◌||◌, [], ◌∷◌, ◌++◌, drop, replicate, Some, None, Option, ◌==◌}
+use Rattle.std.specs.Prelude.{◌≡◌, ℕ, zero, suc, Bool, true, false, cond, ◌&&◌, ◌||◌, [], ◌∷◌, ◌++◌, drop, replicate, Some, None, Err, Option, ◌==◌}
 use Rattle.reader.specs.Blocks.{block}
 use Rattle.reader.specs.Refusals.{number}
 use Rattle.reader.specs.Requests.{request_in}
@@ -7,6 +7,7 @@ use Rattle.reader.specs.declared.ids.NodeId.{NodeId}
 use Rattle.reader.specs.declared.ids.Eui64.{Eui64}
 use Rattle.reader.specs.declared.refusal.Refusal.TheVariants.{AccessDenied, LogicalUnitNotSupported, FunctionRejected, Unspecified}
 use Rattle.reader.specs.declared.request.Request.{Request}
+use Rattle.bus.specs.Meaning.{granted}
 use Rattle.logins.specs.Logins.{holder, reserved}
 use Rattle.logins.specs.Rows.{row_at}
 use Rattle.tables.specs.Books.{Book, new_book}
@@ -14,7 +15,6 @@ use Rattle.tables.specs.Events.{was_reset, ticking_so, tick_counted}
 use Rattle.rules.specs.Responses.{big}
 use Rattle.rules.specs.Scenes.{Scene, Outcome, answer_of, book_after, response}
 use Rattle.rules.specs.Serving.{outcome}
-use Rattle.rules.specs.declared.calls.Answer.TheVariants.{Granted, Refused}
 use Rattle.journal.specs.Numbers.{code}
 use Rattle.journal.specs.Entries.{NoEntry}
 
@@ -78,10 +78,10 @@ pub record Examples (address room : ℕ) : Type 0 where
       ≡ 0x00 ∷ 0x10 ∷ 0x00 ∷ 0x01 ∷ 0xFF ∷ 0xC2 ∷ 0xFF ∷ 0xFF ∷ 0xF0 ∷ 0x01 ∷ 0x00 ∷ 0x00 ∷ 0x00 ∷ 0x00 ∷ 0x00 ∷ 0x03 ∷ []
   pub granted_block : block 0 address ≡ 0x01 ∷ 0x00 ∷ 0x00 ∷ 0x00 ∷ 0x00 ∷ 0x01 ∷ 0x23 ∷ 0x40 ∷ []
   -- 2: then B is turned away
-  pub second_refused : answer_of (served (logged_in room) B 0x8000_0001 room) ≡ Refused (AccessDenied 1)
+  pub second_refused : answer_of (served (logged_in room) B 0x8000_0001 room) ≡ Err (AccessDenied 1)
   pub second_block : block (number (AccessDenied 1)) address ≡ 0x01 ∷ 0x04 ∷ 0x00 ∷ 0x00 ∷ 0x00 ∷ 0x01 ∷ 0x23 ∷ 0x40 ∷ []
   -- 3: after a bus reset B again
-  pub held_refused : answer_of (served (knocked room) B 0x8000_0001 room) ≡ Refused (AccessDenied 1)
+  pub held_refused : answer_of (served (knocked room) B 0x8000_0001 room) ≡ Err (AccessDenied 1)
   -- 4: nine ticks without a gap
   pub waits_for_the_gap : login_A (waited room) ≡ true
   -- 5: gap and four ticks
@@ -96,14 +96,14 @@ pub record Examples (address room : ℕ) : Type 0 where
   pub hold_of_8 : drop 14 (response (served new_book A 0x9080_0001 room)) ≡ 0 ∷ 255 ∷ []
   pub hold_of_9 : drop 14 (response (served new_book A 0x9090_0001 room)) ≡ 0 ∷ 255 ∷ []
   -- 9: length 12 and length 11
-  pub short_granted : answer_of (served new_book A 0x9020_0001 12) ≡ Granted
+  pub short_granted : answer_of (served new_book A 0x9020_0001 12) ≡ granted
   pub short_hold : (row_at (book_after new_book (served new_book A 0x9020_0001 12)).logins 0).hold ≡ 0
-  pub too_short : answer_of (served new_book A 0x9020_0001 11) ≡ Refused FunctionRejected
+  pub too_short : answer_of (served new_book A 0x9020_0001 11) ≡ Err FunctionRejected
   -- 10: unit 3 and unit 4
-  pub not_admitted : answer_of (served new_book A 0x9020_0003 room) ≡ Refused (AccessDenied 3)
-  pub no_such_unit : answer_of (served new_book A 0x9020_0004 room) ≡ Refused LogicalUnitNotSupported
+  pub not_admitted : answer_of (served new_book A 0x9020_0003 room) ≡ Err (AccessDenied 3)
+  pub no_such_unit : answer_of (served new_book A 0x9020_0004 room) ≡ Err LogicalUnitNotSupported
   -- 11: nobody is at FFFFh
-  pub nobody_there : answer_of (served new_book (node 0xFFFF) 0x9020_0001 room) ≡ Refused (Unspecified (node 0xFFFF))
+  pub nobody_there : answer_of (served new_book (node 0xFFFF) 0x9020_0001 room) ≡ Err (Unspecified (node 0xFFFF))
   -- 12: numbers in a journal
   pub code_of_300 : code 300 ≡ 0xAC ∷ 0x02 ∷ []
   pub code_of_FFC2h : code 0xFFC2 ≡ 0xC2 ∷ 0xFF ∷ 0x03 ∷ []

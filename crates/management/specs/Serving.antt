@@ -2,11 +2,10 @@
 use Rattle.std.specs.Prelude.{◌≡◌, ℕ, cond, List, length, Ok, Err, Result, nat_lt}
 use Rattle.reader.specs.declared.refusal.Refusal.{Refusal}
 use Rattle.reader.specs.declared.refusal.Refusal.TheVariants.{ResponseArea}
+use Rattle.bus.specs.Meaning.{Answer, granted}
 use Rattle.responses.specs.Writing.{smallest_area}
 use Rattle.rules.specs.Runs.{Snapshot}
 use Rattle.rules.specs.Scenes.{Outcome, refuse, grant, book_after}
-use Rattle.rules.specs.declared.calls.Answer.{Answer}
-use Rattle.rules.specs.declared.calls.Answer.TheVariants.{Granted, Refused}
 
 -- how many bytes were stored, or why none
 abbrev pub told : Outcome → Result ℕ Refusal
@@ -15,8 +14,8 @@ told (grant bytes b) = Ok (length bytes)
 
 -- the same as a call's answer
 abbrev pub answer_told : Result ℕ Refusal → Answer
-answer_told (Ok n) = Granted
-answer_told (Err r) = Refused r
+answer_told (Ok n) = granted
+answer_told (Err r) = Err r
 
 -- too small a response area is refused before all else, with its length
 abbrev pub in_area : List ℕ → Outcome → Outcome

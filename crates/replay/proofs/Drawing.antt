@@ -3,19 +3,20 @@ use Rattle.std.proofs.Common.{◌≡◌, ℕ, ◌+◌, ◌<◌, ◌≤◌, List,
 use Rattle.std.proofs.lemmas.List.{append-nil, append_assoc, at_drop_more, at_drop_all}
 use Rattle.reader.specs.Refusals.{number}
 use Rattle.reader.specs.declared.refusal.Refusal.{Refusal}
+use Rattle.bus.specs.Meaning.{Answer}
+use Rattle.agent.specs.Exchanges.{status_of}
 use Rattle.journal.specs.Entries.{Entry, entry, entries}
 use Rattle.journal.specs.declared.record.Record.{Record}
-use Rattle.rules.specs.declared.calls.Answer.{Answer}
 use Rattle.replay.specs.Cabinets.{Cabinet, CabinetCall, answer, after, answers}
 use Rattle.replay.specs.Calls.{with_call, call_of, calls_of}
 use Rattle.replay.specs.Drawing.{next_number, answers_left, numbers_from}
-use Rattle.replay.specs.Listings.{drawn, after_record, answer_number, numbers, line_text, lines_text}
+use Rattle.replay.specs.Listings.{drawn, after_record, numbers, line_text, lines_text}
 
 -- one record before those for which it holds
 number_first : (c : Cabinet) (es : List Entry) → ((d : Cabinet) → numbers_from (answers d (calls_of es)) es ≡ numbers d es) → (r : Result CabinetCall Refusal)
     → next_number r (answers c (with_call r (calls_of es))) ∷ numbers_from (answers_left r (answers c (with_call r (calls_of es)))) es
-    ≡ answer_number (drawn c r) ∷ numbers (after_record c r) es
-number_first c es later (Ok call) = ap (λ (ns : List ℕ). answer_number (answer c call) ∷ ns) (later (after c call))
+    ≡ status_of (drawn c r) ∷ numbers (after_record c r) es
+number_first c es later (Ok call) = ap (λ (ns : List ℕ). status_of (answer c call) ∷ ns) (later (after c call))
 number_first c es later (Err refusal) = ap (λ (ns : List ℕ). number refusal ∷ ns) (later c)
 
 pub numbers_drawn : (c : Cabinet) (es : List Entry) → numbers_from (answers c (calls_of es)) es ≡ numbers c es

@@ -1,5 +1,5 @@
 -- A record performed: a request through an exchange, and all else by the target. Assumes nothing.
-use Rattle.std.proofs.Common.{◌≡◌, ℕ, Bool, true, false, cond, eqb, List, length, Some, None, Ok, Err, Option, Result, sym, refl, ap, ◌∙◌, arith, Bor}
+use Rattle.std.proofs.Common.{◌≡◌, ℕ, Bool, true, false, cond, eqb, List, length, Ok, Err, Option, Result, sym, refl, ap, ◌∙◌, arith, Bor}
 use Rattle.std.proofs.lemmas.Bool.{eq-eqb}
 use Rattle.reader.specs.Requests.{request_in, request_read}
 use Rattle.reader.specs.declared.ids.NodeId.{NodeId}
@@ -10,9 +10,8 @@ use Rattle.bus.specs.LocalBuses.{local_model}
 use Rattle.bus.specs.Portals.{portal_model}
 use Rattle.access.specs.Pairs.{pair_model}
 use Rattle.access.specs.Stops.{stop_model}
-use Rattle.rules.specs.Scenes.{Outcome, refuse, grant, stored}
+use Rattle.rules.specs.Scenes.{Outcome, stored}
 use Rattle.rules.specs.Serving.{outcome}
-use Rattle.rules.specs.declared.calls.Answer.TheVariants.{Refused}
 use Rattle.rules.specs.declared.calls.Call.TheVariants.{Request as Asked}
 use Rattle.agent.specs.Answers.{Answers, checked, outcome_of, after_answer, rule}
 use Rattle.agent.specs.Exchanges.{orb_fits, status_of, answered_with}
@@ -24,7 +23,7 @@ use Rattle.journal.specs.declared.record.Record.{Record}
 use Rattle.journal.specs.declared.record.Record.TheVariants.{Request, BusReset, NetUpdate, Gap, Tick, AccessChange, BusNote, PairNote, StopNote}
 use Rattle.replay.specs.Cabinets.{Cabinet, cabinet_of, scene, after}
 use Rattle.replay.specs.Calls.{asked, call_of}
-use Rattle.replay.specs.Driving.{blank, quiet, status_block, served, exchange, signalled, request_effect, effect}
+use Rattle.replay.specs.Driving.{blank, quiet, status_block, exchange, signalled, request_effect, effect}
 use Rattle.replay.specs.Listings.{drawn, after_record}
 use Rattle.replay.specs.Steps.{Moment}
 use Rattle.replay.specs.declared.driving.Effect.{Effect}
@@ -32,31 +31,18 @@ use Rattle.replay.proofs.Steps.{steps_told}
 
 -- an ORB address that does not fit leaves the cabinet
 pub turned_away : (c : Cabinet) (source : NodeId) (address : ℕ) (orb : List ℕ) (r : Refusal) → Err r ≡ signalled source address
-    → (quiet (Refused r) ≡ effect c (request source address orb)) × (c ≡ after_record c (call_of (request source address orb)))
+    → (quiet (Err r) ≡ effect c (request source address orb)) × (c ≡ after_record c (call_of (request source address orb)))
 turned_away c source address orb r e = go (orb_fits address) e
   where
     go : (b : Bool) → Err r ≡ cond b (Ok (exchange source address)) (Err (OrbAddress address))
-        → (quiet (Refused r) ≡ request_effect c source address (cond b (request_read orb) (Err (OrbAddress address))))
+        → (quiet (Err r) ≡ request_effect c source address (cond b (request_read orb) (Err (OrbAddress address))))
         × (c ≡ after_record c (cond b (asked source (request_read orb)) (Err (OrbAddress address))))
     go true e = absurd (let z : ◌≡◌ {A = ℕ} 0 1 = cc in omega arith)
-    go false e = let same : r ≡ OrbAddress address = cc in (ap (λ (x : Refusal). quiet (Refused x)) same, refl)
+    go false e = let same : r ≡ OrbAddress address = cc in (ap (λ (x : Refusal). quiet (Err x)) same, refl)
 
--- how a request was served, as parts of its effect
-abbrev pub refusal_told : Result ℕ Refusal → Option Refusal
-refusal_told (Ok n) = None
-refusal_told (Err refusal) = Some refusal
-
-abbrev pub stored_told : Result ℕ Refusal → ℕ
-stored_told (Ok n) = n
-stored_told (Err refusal) = 0
-
+-- an effect by its parts
 abbrev pub effect_told : Result ℕ Refusal → List ℕ → Option (List ℕ) → Effect
-effect_told told area status = record { refusal = refusal_told told; response = area; stored = stored_told told; status = status }
-
-told_effect : (address : ℕ) (q : Fields) (o : Outcome)
-    → effect_told (told o) (stored blank o) (status_block address q.notify (status_of (told o))) ≡ served address q o
-told_effect address q (refuse r) = refl
-told_effect address q (grant bytes b) = refl
+effect_told answer area status = record { answer = answer; area = area; status = status }
 
 -- a request of 32 bytes whose ORB address fits
 module _ (source : NodeId) (address : ℕ) (orb : List ℕ) (size : length orb ≡ 32) (s : Signalled) (began : Ok s ≡ signalled source address) where
@@ -115,15 +101,13 @@ module _ (source : NodeId) (address : ℕ) (orb : List ℕ) (size : length orb �
         t ∙ ap (λ (z : Answered). status_block z.orb_address z.notify z.status) answered_is in
         let read_is : cond (orb_fits address) (request_read orb) (Err (OrbAddress address)) ≡ Ok q =
         ap (λ (b : Bool). cond b (request_read orb) (Err (OrbAddress address))) begun.0 ∙ is_read in
-        (λ i. effect_told (result_is i) (area_is i) (status_is i)) ∙ told_effect address q o ∙ sym (ap (request_effect (cabinet_of x) source address) read_is)
+        (λ i. effect_told (result_is i) (area_is i) (status_is i)) ∙ sym (ap (request_effect (cabinet_of x) source address) read_is)
 
     pub performed : (answered : Answered) (result : Result ℕ Refusal) (status : Option (List ℕ)) → r ≡ Ok (answered, result)
         → status ≡ status_block answered.orb_address answered.notify answered.status
-        → (was : Result ℕ Refusal) → result ≡ was
-        → (effect_told was area status ≡ effect (cabinet_of x) (request source address orb))
+        → (effect_told result area status ≡ effect (cabinet_of x) (request source address orb))
         × (cabinet_of y ≡ after_record (cabinet_of x) (call_of (request source address orb)))
-    performed answered result status u t was e =
-        (ap (λ (z : Result ℕ Refusal). effect_told z area status) (sym e) ∙ performed_effect answered result status u t, performed_after)
+    performed answered result status u t = (performed_effect answered result status u t, performed_after)
 
 -- any other record is a call, and has no effect but its answer
 pub other_record : (c : Cabinet) (r : Record) → ((source : NodeId) (address : ℕ) (orb : Bor (List ℕ)) → r ≡ Request source address orb → ⊥)

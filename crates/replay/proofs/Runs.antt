@@ -6,6 +6,7 @@ use Rattle.bus.specs.LocalBuses.{local_model}
 use Rattle.bus.specs.Portals.{portal_model}
 use Rattle.bus.specs.declared.local.LocalBus.{LocalBus}
 use Rattle.bus.specs.declared.portal.Portal.{Portal}
+use Rattle.bus.specs.Meaning.{Answer}
 use Rattle.access.specs.Pairs.{pair_model}
 use Rattle.access.specs.Stops.{stop_model}
 use Rattle.access.specs.declared.pairs.PairNote.{PairNote}
@@ -13,7 +14,6 @@ use Rattle.access.specs.declared.pairs.PairTable.{PairTable}
 use Rattle.access.specs.declared.stops.StopList.{StopList}
 use Rattle.access.specs.declared.stops.StopNote.{StopNote}
 use Rattle.rules.specs.Runs.{Event, Run, now_at}
-use Rattle.rules.specs.declared.calls.Answer.{Answer}
 use Rattle.replay.specs.Cabinets.{Cabinet, CabinetCall, cabinet_of, answer, after, answers}
 use Rattle.replay.specs.Steps.{Moment}
 use Rattle.replay.proofs.Steps.{steps_told}

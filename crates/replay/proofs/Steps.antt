@@ -3,6 +3,7 @@ use Rattle.std.proofs.Common.{◌≡◌, Bool, true, false, cond, MatchBool, Opt
 use Rattle.reader.specs.Ids.{global}
 use Rattle.reader.specs.declared.ids.NodeId.{NodeId}
 use Rattle.reader.specs.declared.ids.Eui64.{Eui64}
+use Rattle.bus.specs.Meaning.{Answer}
 use Rattle.bus.specs.LocalBuses.{LocalTables, local_tables, local_model, local_answer, local_noted}
 use Rattle.bus.specs.Portals.{PortalTables, portal_tables, portal_answer, portal_noted}
 use Rattle.access.specs.Tables.{Noting}
@@ -14,7 +15,6 @@ use Rattle.access.specs.declared.stops.StopList.{StopList}
 use Rattle.access.specs.declared.stops.StopNote.TheVariants.{Stop, Below}
 use Rattle.tables.specs.Books.{Book}
 use Rattle.tables.specs.Events.{was_reset, access_changed}
-use Rattle.rules.specs.Runs.{note_answer}
 use Rattle.rules.specs.declared.calls.Call.TheVariants.{Request, BusReset, NetUpdate, Gap, Tick, AccessChange, BusNote, AccessNote}
 use Rattle.replay.specs.Steps.{Moment, StepsTold}
 use Rattle.replay.specs.Cabinets.{cabinet_of, shows, admits, answer, after, with_book, with_bus, with_list}
@@ -37,7 +37,7 @@ module _ (x y : Moment) where
   same_both book bus list b = same_bus _ _ book (ap (λ (a : StopList PairTable). pair_tables a.below) list) (ap stop_tables list) bus b
 
   -- a note of a global ID is the portal's, and any other one the local bus's
-  noted : (node : NodeId) (e : Option Eui64) (r : Rattle.bus.specs.Meaning.Answer) (is_global : Bool)
+  noted : (node : NodeId) (e : Option Eui64) (r : Answer) (is_global : Bool)
       → MatchBool is_global
       ((y.bus.below ≡ x.bus.below) × (r ≡ portal_answer (portal_tables x.bus) node e) × (portal_tables y.bus ≡ portal_noted (portal_tables x.bus) node e))
       (local_model.Notes x.bus.below node e r y.bus.below × (portal_tables y.bus ≡ portal_tables x.bus))
@@ -66,9 +66,9 @@ steps_told x AccessChange a y s =
       changed = same_bus x y _ _ _ s.1.0 s.1.1 s.2 (s.3 ∙ (λ i. access_changed (admits (s.1.0 i) (s.1.1 i)) x.book));
     }
 steps_told x (BusNote node e) a y s =
-    let n = noted x y node e s.0 (global node) s.2 s.3 s.4 in
-    record { answered = s.1 ∙ ap note_answer n.0; changed = n.1 }
+    let n = noted x y node e a (global node) s.0 s.1 s.2 in
+    record { answered = n.0; changed = n.1 }
 steps_told x (AccessNote (Stop e stopped)) a y s =
-    record { answered = s.1 ∙ ap note_answer s.2.1; changed = same_bus x y _ _ _ (ap pair_tables s.2.0) s.2.2 s.3 s.4 }
+    record { answered = s.0.1; changed = same_bus x y _ _ _ (ap pair_tables s.0.0) s.0.2 s.1 s.2 }
 steps_told x (AccessNote (Below n)) a y s =
-    record { answered = s.1 ∙ ap note_answer s.2.0.0; changed = same_bus x y _ _ _ s.2.0.1 s.2.1 s.3 s.4 }
+    record { answered = s.0.0.0; changed = same_bus x y _ _ _ s.0.0.1 s.0.1 s.1 s.2 }

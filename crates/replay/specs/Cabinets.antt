@@ -8,6 +8,7 @@ use Rattle.bus.specs.LocalBuses.{LocalTables, local_tables, new_local, local_own
 use Rattle.bus.specs.Portals.{PortalTables, portal_tables, new_portal, portal_shows, portal_updated, portal_answer, portal_noted}
 use Rattle.bus.specs.declared.local.LocalBus.{LocalBus}
 use Rattle.bus.specs.declared.portal.Portal.{Portal}
+use Rattle.bus.specs.Meaning.{Answer, granted}
 use Rattle.access.specs.Tables.{Noting}
 use Rattle.access.specs.Pairs.{pair_tables, new_pairs, pair_settled, pair_answer, pair_noted, pair_admits}
 use Rattle.access.specs.Stops.{stop_tables, new_stops, stop_settled, stop_answer, stop_noted, stop_admits}
@@ -19,11 +20,9 @@ use Rattle.access.specs.declared.stops.StopNote.{StopNote}
 use Rattle.access.specs.declared.stops.StopNote.TheVariants.{Stop, Below}
 use Rattle.tables.specs.Books.{Book, new_book}
 use Rattle.tables.specs.Events.{was_reset, net_updated, ticking_so, tick_counted, access_changed}
-use Rattle.rules.specs.Runs.{Snapshot, note_answer}
+use Rattle.rules.specs.Runs.{Snapshot}
 use Rattle.rules.specs.Scenes.{Scene, answer_of, book_after}
 use Rattle.rules.specs.Serving.{outcome}
-use Rattle.rules.specs.declared.calls.Answer.{Answer}
-use Rattle.rules.specs.declared.calls.Answer.TheVariants.{Granted}
 use Rattle.rules.specs.declared.calls.Call.{Call}
 use Rattle.rules.specs.declared.calls.Call.TheVariants.{Request, BusReset, NetUpdate, Gap, Tick, AccessChange, BusNote, AccessNote}
 
@@ -66,23 +65,23 @@ abbrev pub CabinetCall : Type 0
 CabinetCall = Call (StopNote PairNote)
 
 -- notes of a global ID are the portal's, all others the local bus's
-abbrev pub bus_note_answer : Cabinet → NodeId → Option Eui64 → Rattle.bus.specs.Meaning.Answer
+abbrev pub bus_note_answer : Cabinet → NodeId → Option Eui64 → Answer
 bus_note_answer c node e = cond (global node) (portal_answer c.portal node e) (local_answer c.local node e)
 
-abbrev pub list_note_answer : Cabinet → StopNote PairNote → Rattle.bus.specs.Meaning.Answer
+abbrev pub list_note_answer : Cabinet → StopNote PairNote → Answer
 list_note_answer c (Stop e stopped) = stop_answer c.stops e stopped
 list_note_answer c (Below n) = pair_answer c.pairs n
 
 -- the answer to a call
 abbrev pub answer : Cabinet → CabinetCall → Answer
 answer c (Request source q) = answer_of (outcome (scene c) source q)
-answer c BusReset = Granted
-answer c NetUpdate = Granted
-answer c Gap = Granted
-answer c Tick = Granted
-answer c AccessChange = Granted
-answer c (BusNote node e) = note_answer (bus_note_answer c node e)
-answer c (AccessNote n) = note_answer (list_note_answer c n)
+answer c BusReset = granted
+answer c NetUpdate = granted
+answer c Gap = granted
+answer c Tick = granted
+answer c AccessChange = granted
+answer c (BusNote node e) = bus_note_answer c node e
+answer c (AccessNote n) = list_note_answer c n
 
 abbrev pub with_book : Cabinet → Book → Cabinet
 with_book c b = record { local = c.local; portal = c.portal; pairs = c.pairs; stops = c.stops; book = b }

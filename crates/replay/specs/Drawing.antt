@@ -2,16 +2,15 @@
 use Rattle.std.specs.Prelude.{ℕ, List, [], ◌∷◌, drop, Ok, Err, Result, slice_index_or}
 use Rattle.reader.specs.Refusals.{number}
 use Rattle.reader.specs.declared.refusal.Refusal.{Refusal}
+use Rattle.bus.specs.Meaning.{Answer, granted}
+use Rattle.agent.specs.Exchanges.{status_of}
 use Rattle.journal.specs.Entries.{Entry}
-use Rattle.rules.specs.declared.calls.Answer.{Answer}
-use Rattle.rules.specs.declared.calls.Answer.TheVariants.{Granted}
 use Rattle.replay.specs.Cabinets.{CabinetCall}
 use Rattle.replay.specs.Calls.{call_of}
-use Rattle.replay.specs.Listings.{answer_number}
 
 -- a call takes the next answer; one that is no call has its own number
 abbrev pub next_number : Result CabinetCall Refusal → List Answer → ℕ
-next_number (Ok call) given = answer_number (slice_index_or given 0 Granted)
+next_number (Ok call) given = status_of (slice_index_or given 0 granted)
 next_number (Err refusal) given = number refusal
 
 abbrev pub answers_left : Result CabinetCall Refusal → List Answer → List Answer

@@ -2,31 +2,26 @@
 use Rattle.std.specs.Prelude.{◌≡◌, ℕ, ◌+◌, cond, List, [], ◌∷◌, ◌++◌, length, Some, None, Ok, Err, codes, decimal, Option, Result, ◌==◌}
 use Rattle.reader.specs.Refusals.{number}
 use Rattle.reader.specs.declared.refusal.Refusal.{Refusal}
+use Rattle.bus.specs.Meaning.{Answer}
+use Rattle.agent.specs.Exchanges.{status_of}
 use Rattle.journal.specs.Entries.{Entry}
 use Rattle.journal.specs.Journals.{Reads}
-use Rattle.rules.specs.declared.calls.Answer.{Answer}
-use Rattle.rules.specs.declared.calls.Answer.TheVariants.{Granted, Refused}
 use Rattle.replay.specs.Cabinets.{Cabinet, CabinetCall, new_cabinet, answer, after}
 use Rattle.replay.specs.Calls.{call_of}
 
 -- what a record is answered, and the cabinet after it; one that is no call leaves it
 abbrev pub drawn : Cabinet → Result CabinetCall Refusal → Answer
 drawn c (Ok call) = answer c call
-drawn c (Err refusal) = Refused refusal
+drawn c (Err refusal) = Err refusal
 
 abbrev pub after_record : Cabinet → Result CabinetCall Refusal → Cabinet
 after_record c (Ok call) = after c call
 after_record c (Err refusal) = c
 
--- 0 if granted, else the refusal's number
-abbrev pub answer_number : Answer → ℕ
-answer_number Granted = 0
-answer_number (Refused refusal) = number refusal
-
--- a number for each record
+-- a number for each record: 0 if it is granted, else that of the refusal
 abbrev pub numbers : Cabinet → List Entry → List ℕ
 numbers c [] = []
-numbers c (e ∷ es) = answer_number (drawn c (call_of e)) ∷ numbers (after_record c (call_of e)) es
+numbers c (e ∷ es) = status_of (drawn c (call_of e)) ∷ numbers (after_record c (call_of e)) es
 
 -- the count, a space, the number, and a line feed
 abbrev pub line_text : ℕ → ℕ → List ℕ

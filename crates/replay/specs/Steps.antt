@@ -4,12 +4,12 @@ use Rattle.bus.specs.LocalBuses.{local_model}
 use Rattle.bus.specs.Portals.{portal_model}
 use Rattle.bus.specs.declared.local.LocalBus.{LocalBus}
 use Rattle.bus.specs.declared.portal.Portal.{Portal}
+use Rattle.bus.specs.Meaning.{Answer}
 use Rattle.access.specs.Pairs.{pair_model}
 use Rattle.access.specs.Stops.{stop_model}
 use Rattle.access.specs.declared.pairs.PairTable.{PairTable}
 use Rattle.access.specs.declared.stops.StopList.{StopList}
 use Rattle.rules.specs.Runs.{Snapshot, Step}
-use Rattle.rules.specs.declared.calls.Answer.{Answer}
 use Rattle.replay.specs.Cabinets.{Cabinet, CabinetCall, cabinet_of}
 
 -- a target at one moment, with the cabinet's bus and list

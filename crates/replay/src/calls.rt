@@ -20,10 +20,8 @@ pub type CabinetCall = Call<StopNote<PairNote>>;
 fn asked(source: NodeId, orb: &[u8; 32]) -> Result<CabinetCall, Refusal>
     ensures { result ≡ asked source (request_read orb.now) }
 {
-    match Request::read(orb) {
-        Ok(request) => Ok(Call::Request(source, request)),
-        Err(refusal) => Err(refusal),
-    }
+    let request = Request::read(orb)?;
+    Ok(Call::Request(source, request))
 }
 
 /// The call that a record is, or why it never reaches the cabinet.

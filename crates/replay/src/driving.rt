@@ -2,10 +2,10 @@
 ghost use Rattle.std.specs.Prelude.{◌≡◌};
 ghost use Rattle.tables.specs.Books.{book_of};
 ghost use Rattle.journal.specs.Entries.{request, entry};
-ghost use Rattle.replay.specs.Cabinets.{new_cabinet, answer, after};
+ghost use Rattle.replay.specs.Cabinets.{new_cabinet};
 ghost use Rattle.replay.specs.Calls.{call_of};
-ghost use Rattle.replay.specs.Driving.{data_of, quiet, status_block, signalled, effect};
-ghost use Rattle.replay.specs.Listings.{after_record};
+ghost use Rattle.replay.specs.Driving.{data_of, quiet, response_bytes, status_block, signalled, effect};
+ghost use Rattle.replay.specs.Listings.{drawn, after_record};
 
 use crate::cabinet::{new_bus, new_list};
 use crate::calls::{CabinetCall, call_of};
@@ -28,13 +28,12 @@ pub struct Cabinet {
     target: Target<Portal<LocalBus>, StopList<PairTable>>,
 }
 
-/// What came of a record: why it was refused, if it was, the response area with the number of bytes stored at its
-/// front, and the status block, if one was written.
+/// What came of a record: how many bytes of its response stand at the front of the area or why it was refused, and
+/// the status block, if one was written.
 #[derive(Clone, Copy)]
 pub struct Effect {
-    pub refusal: Option<Refusal>,
-    pub response: [u8; SMALLEST_AREA],
-    pub stored: usize,
+    pub answer: Result<usize, Refusal>,
+    pub area: [u8; SMALLEST_AREA],
     pub status: Option<[u8; 8]>,
 }
 
@@ -42,39 +41,41 @@ impl Effect {
     fn quiet(answer: Answer) -> Effect
         ensures { result ≡ quiet answer }
     {
-        let refusal = match answer {
-            Answer::Granted => None,
-            Answer::Refused(refusal) => Some(refusal),
-        };
         Effect {
-            refusal,
-            response: [0; SMALLEST_AREA],
-            stored: 0,
+            answer: answer.map(|()| 0),
+            area: [0; SMALLEST_AREA],
             status: None,
         }
+    }
+
+    /// The bytes of its response.
+    pub fn response(&self) -> &[u8]
+        ensures { result.now ≡ response_bytes self.now }
+    {
+        // A ghost field for this bound would leave the definitions no effect of a longer response.
+        let stored = self.answer.unwrap_or(0).min(SMALLEST_AREA);
+        &self.area[..stored]
     }
 }
 
 fn signal(source: NodeId, orb_address: u64) -> Result<Signalled, Refusal>
     ensures { result ≡ signalled source orb_address }
 {
-    match Idle::new().signal(source, orb_address) {
-        Ok(signalled) => Ok(signalled),
-        Err((refusal, idle)) => {
-            let _ = idle.end();
-            Err(refusal)
-        }
-    }
+    Idle::new().signal(source, orb_address).map_err(|(refusal, idle)| {
+        let _ = idle.end();
+        refusal
+    })
 }
 
-// The status block, if one was written: its first byte is 1.
+// The status block, if one was written.
 fn close(answered: Answered) -> Option<[u8; 8]>
     ensures { result ≡ status_block answered.orb_address answered.notify answered.status }
 {
+    let told = answered.tells();
     let mut area = [0; 8];
     let idle = answered.close(&mut area).unwrap();
     let _ = idle.end();
-    if area[0] == 1 { Some(area) } else { None }
+    told.then_some(area)
 }
 
 impl Cabinet {
@@ -101,35 +102,27 @@ impl Cabinet {
     {
         let signalled = match signal(source, orb_address) {
             Ok(signalled) => signalled,
-            Err(refusal) => return Effect::quiet(Answer::Refused(refusal)),
+            Err(refusal) => return Effect::quiet(Err(refusal)),
         };
-        let mut response = [0; SMALLEST_AREA];
+        let mut area = [0; SMALLEST_AREA];
         let mut link = 0;
-        let (answered, served) = signalled
-            .answer(&mut self.target, orb, &mut response, &mut link)
+        let (answered, answer) = signalled
+            .answer(&mut self.target, orb, &mut area, &mut link)
             .unwrap();
         let status = close(answered);
-        match served {
-            Ok(stored) => Effect {
-                refusal: None,
-                response,
-                stored,
-                status,
-            },
-            Err(refusal) => Effect {
-                refusal: Some(refusal),
-                response,
-                stored: 0,
-                status,
-            },
+        Effect {
+            answer,
+            area,
+            status,
         }
     }
 
-    fn make(&mut self, call: CabinetCall) -> Answer
-        ensures answer { result ≡ answer (data_of self.old) call }
-        ensures after { data_of self.new ≡ after (data_of self.old) call }
+    // What a call is answered, or why there was none.
+    fn make(&mut self, call: Result<CabinetCall, Refusal>) -> Answer
+        ensures answer { result ≡ drawn (data_of self.old) call }
+        ensures after { data_of self.new ≡ after_record (data_of self.old) call }
     {
-        self.target.make(call)
+        self.target.make(call?)
     }
 
     /// What a record makes of the cabinet, and what comes of it: a request goes through an exchange, all else is a call
@@ -146,9 +139,6 @@ impl Cabinet {
         {
             return self.request(source, orb_address, orb);
         }
-        match call_of(record) {
-            Ok(call) => Effect::quiet(self.make(call)),
-            Err(refusal) => Effect::quiet(Answer::Refused(refusal)),
-        }
+        Effect::quiet(self.make(call_of(record)))
     }
 }

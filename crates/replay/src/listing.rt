@@ -3,24 +3,16 @@ ghost use Rattle.std.specs.Prelude.{◌≡◌, ◌^◌, ◌<◌, IfOk, string_by
 ghost use Rattle.journal.specs.Entries.{entry, entries};
 ghost use Rattle.replay.specs.Calls.{call_of};
 ghost use Rattle.replay.specs.Drawing.{next_number, answers_left, numbers_from};
-ghost use Rattle.replay.specs.Listings.{answer_number, line_text, lines_text, end_count, end_text, Listed};
+ghost use Rattle.replay.specs.Listings.{line_text, lines_text, end_count, end_text, Listed};
 
 use crate::cabinet::answers;
 use crate::calls::{call_of, calls_of};
+use agent::steps::status;
 use journal::reading::read_journal;
 use journal::record::Record;
 use reader::refusal::Refusal;
 use rules::calls::Answer;
 use std::alloc::{AllocError, Global};
-
-fn answer_number(answer: Answer) -> u8
-    ensures { result ≡ answer_number answer }
-{
-    match answer {
-        Answer::Granted => 0,
-        Answer::Refused(refusal) => refusal.number(),
-    }
-}
 
 // A record's number, and the answers that are left for those after it.
 fn next_number<'a>(record: Record<'_>, left: &'a [Answer]) -> (u8, &'a [Answer])
@@ -31,7 +23,7 @@ fn next_number<'a>(record: Record<'_>, left: &'a [Answer]) -> (u8, &'a [Answer])
         Err(refusal) => (refusal.number(), left),
         Ok(_) => match left {
             [] => (0, left),
-            [answer, rest @ ..] => (answer_number(*answer), rest),
+            [answer, rest @ ..] => (status(*answer), rest),
         },
     }
 }

@@ -5,7 +5,6 @@ use Rattle.std.proofs.lemmas.Bool.{both_ways, and_parts, leb-true, lt-ltb, not_f
 use Rattle.reader.specs.Ids.{none_eui}
 use Rattle.reader.specs.declared.ids.NodeId.{NodeId}
 use Rattle.reader.specs.declared.ids.Eui64.{Eui64}
-use Rattle.reader.specs.declared.refusal.Refusal.{Refusal}
 use Rattle.reader.specs.declared.request.Request.{Request}
 use Rattle.logins.specs.Logins.{holder, active}
 use Rattle.logins.specs.Rows.{logins_size, handles_size, row_at, handle_at, in_use}
@@ -16,9 +15,8 @@ use Rattle.tables.specs.Events.{given_login, given_handle}
 use Rattle.tables.specs.Searches.{free_login, free_handle_place, after_place}
 use Rattle.tables.proofs.Places.{next_free_some}
 use Rattle.rules.specs.HandleClaims.{AwareHolder, HandleClaims}
-use Rattle.rules.specs.Logins.{unit_of, rejected, denied, new_row, own_handle, login_at, login_in, login_outcome}
-use Rattle.rules.specs.Scenes.{Scene, Outcome, refuse, book_after, own_login}
-use Rattle.rules.proofs.Walking.{by_test}
+use Rattle.rules.specs.Logins.{new_row, own_handle}
+use Rattle.rules.specs.Scenes.{Scene, own_login}
 use Rattle.rules.proofs.HandleGiving.{claims_unaware, claims_aware}
 use Rattle.rules.proofs.HandleKeeping.{Sized, sized_as}
 use Rattle.rules.proofs.HandlePlaces.{after_below, next_free_below}
@@ -27,10 +25,6 @@ use Rattle.rules.proofs.HandlePlaces.{after_below, next_free_below}
 pub record Kept (shows : NodeId → Option Eui64) (b : Book) : Type 0 where
   pub claims : HandleClaims shows b.logins b.handles
   pub sized : Sized b
-
--- what came of a request keeps it
-pub record After (s : Scene) (o : Outcome) : Type 0 where
-  pub kept : Kept s.shows (book_after s.book o)
 
 -- the own active login is the one that was named, and active
 pub record Named (b : Book) (id slot : ℕ) : Type 0 where
@@ -64,9 +58,6 @@ module _ (s : Scene) (k : Kept s.shows s.book) where
 
   abbrev handles : List Handle
   handles = s.book.handles
-
-  pub refused : (r : Refusal) → After s (refuse r)
-  refused r = record { kept = k }
 
   -- searches and sizes as they were
   pub kept_as : (b : Book) → HandleClaims s.shows b.logins b.handles → length b.logins ≡ length rows → length b.handles ≡ length handles
@@ -108,38 +99,23 @@ module _ (s : Scene) (k : Kept s.shows s.book) where
       was_not : AwareHolder (row_at rows slot) → ⊥
       was_not a = both_ways _ (next_free_some (λ j. holder (row_at rows j)) logins_size s.book.next_login logins_size slot e) a.held
 
-      login_at_after : (o : Option ℕ) → free_handle_place s.book ≡ o → q.aware ≡ true → After s (login_at s source eui q slot o)
-      login_at_after None f a = refused _
-      login_at_after (Some place) f a =
+      pub aware_login_kept : (place : ℕ) → free_handle_place s.book ≡ Some place → q.aware ≡ true → Kept s.shows (given_handle (given_login s.book slot (new_row source eui q)) place (own_handle (slot + 1) eui source))
+      aware_login_kept place f a =
           let h = own_handle (slot + 1) eui source in
+          subst (Kept s.shows) (sym (ap (λ (b : Book). given_handle b place h) given_is ∙ given_is_put with_row place h (place_below place f))) (
           record {
-            kept = subst (Kept s.shows) (sym (ap (λ (b : Book). given_handle b place h) given_is ∙ given_is_put with_row place h (place_below place f))) (
-                record {
-                  claims = claims_aware s.shows rows handles k.claims slot (new_row source eui q) place source (subst (λ (n : ℕ). slot < n) (sym k.sized.all_logins) slot_below) (place_in place f) was_not (place_free place f) (λ h l. there) (
-                      record { held = not_from_false (none_eui eui) somebody; is_aware = a }
-                      ) (λ u l. there);
-                  sized = sized_as s.book (handle_put with_row place h) k.sized (length-set rows slot _) (length-set handles place h) (after_below logins_size slot (omega arith)) (after_below handles_size place (omega arith));
-                }
-                );
-          }
-
-      login_slot_after : After s (login_in s source eui q (Some slot))
-      login_slot_after =
-          by_test (After s) q.aware _ _ (λ a. login_at_after (free_handle_place s.book) refl a) (
-          λ a. record {
-            kept = subst (Kept s.shows) (sym given_is) (
-                record {
-                  claims = claims_unaware s.shows rows handles k.claims slot (new_row source eui q) was_not (λ h l. there) a;
-                  sized = sized_as s.book with_row k.sized (length-set rows slot _) refl (after_below logins_size slot (omega arith)) k.sized.next_place;
-                }
-                );
+            claims = claims_aware s.shows rows handles k.claims slot (new_row source eui q) place source (subst (λ (n : ℕ). slot < n) (sym k.sized.all_logins) slot_below) (place_in place f) was_not (place_free place f) (λ h l. there) (
+                record { held = not_from_false (none_eui eui) somebody; is_aware = a }
+                ) (λ u l. there);
+            sized = sized_as s.book (handle_put with_row place h) k.sized (length-set rows slot _) (length-set handles place h) (after_below logins_size slot (omega arith)) (after_below handles_size place (omega arith));
           }
           )
 
-    login_in_after : (o : Option ℕ) → free_login s.book ≡ o → After s (login_in s source eui q o)
-    login_in_after None e = refused _
-    login_in_after (Some slot) e = login_slot_after slot e
-
-    pub login_after : After s (login_outcome s source eui q)
-    login_after =
-        by_test (After s) (ltb 3 (unit_of q)) _ _ (λ e. refused _) (λ e. by_test (After s) (rejected source q) _ _ (λ e. refused _) (λ e. by_test (After s) (denied s eui q) _ _ (λ e. refused _) (λ ok. login_in_after (free_login s.book) refl)))
+      pub login_kept : q.aware ≡ false → Kept s.shows (given_login s.book slot (new_row source eui q))
+      login_kept a =
+          subst (Kept s.shows) (sym given_is) (
+          record {
+            claims = claims_unaware s.shows rows handles k.claims slot (new_row source eui q) was_not (λ h l. there) a;
+            sized = sized_as s.book with_row k.sized (length-set rows slot _) refl (after_below logins_size slot (omega arith)) k.sized.next_place;
+          }
+          )

@@ -2,7 +2,7 @@
 use Rattle.std.proofs.Common.{◌≡◌, ℕ, Bool, true, List, [], ◌∷◌, map, Option, sym, refl, ap, subst, arith}
 use Rattle.std.proofs.lemmas.List.{length-map}
 use Rattle.std.proofs.lemmas.Bool.{both_ways, cond_both}
-use Rattle.bus.specs.Meaning.{BusModel, Lawful}
+use Rattle.bus.specs.Meaning.{Answer, BusModel, Lawful}
 use Rattle.access.specs.Meaning.{AccessModel}
 use Rattle.reader.specs.declared.ids.NodeId.{NodeId}
 use Rattle.reader.specs.declared.ids.Eui64.{Eui64}
@@ -15,7 +15,6 @@ use Rattle.tables.specs.Books.{Book, new_book, with_logins}
 use Rattle.tables.specs.Events.{swept_book, ticking_so, was_reset, net_updated, tick_counted, access_changed, kept_row}
 use Rattle.rules.specs.HandleClaims.{HandleClaims}
 use Rattle.rules.specs.Runs.{Snapshot, Event, Step, Run, New, now_at, scene}
-use Rattle.rules.specs.declared.calls.Answer.{Answer}
 use Rattle.rules.specs.declared.calls.Call.{Call}
 use Rattle.rules.specs.declared.calls.Call.TheVariants.{Request, BusReset, NetUpdate, Gap, Tick, AccessChange, BusNote, AccessNote}
 use Rattle.rules.proofs.HandleFollowing.{Next, next_ticked, next_kept}
@@ -93,8 +92,8 @@ module _ {B A N : Type 0} (m : BusModel B) (n : AccessModel A N) (lawful : Lawfu
   step_holds x Gap a y step k = moved_on x y _ (kept_ticking (m.shows x.bus) x.book k true) (ap m.shows step.1.bus) step.2
   step_holds x Tick a y step k = moved_on x y _ (kept_ticked (m.shows x.bus) x.book k) (ap m.shows step.1.bus) step.2
   step_holds x AccessChange a y step k = moved_on x y _ (kept_access (m.shows x.bus) x.book k (n.admits y.list)) (ap m.shows step.2) step.3
-  step_holds x (BusNote node e) a y step k = moved_on x y _ k (lawful.note_keeps_shown x.bus y.bus node e step.0 step.2) step.4
-  step_holds x (AccessNote note) a y step k = moved_on x y _ k (ap m.shows step.3) step.4
+  step_holds x (BusNote node e) a y step k = moved_on x y _ k (lawful.note_keeps_shown x.bus y.bus node e a step.0) step.2
+  step_holds x (AccessNote note) a y step k = moved_on x y _ k (ap m.shows step.1) step.2
 
   run_holds : (start : Snapshot B A) → New start → (history : List (Event B A N)) → Run m n start history → KeptAt (now_at start history)
   run_holds start new [] run = subst (Kept (m.shows start.bus)) (sym new) (kept_at_first (m.shows start.bus))

@@ -1,7 +1,7 @@
 -- What is promised of handles holds after an update and a reconnect. Assumes nothing.
 use Rattle.std.proofs.Common.{◌≡◌, ℕ, ◌+◌, ◌-◌, true, false, eqb, leb, List, set, Some, None, Option, sym, refl, ap, ◌∙◌, subst, arith}
 use Rattle.std.proofs.lemmas.List.{length-set, length-map}
-use Rattle.std.proofs.lemmas.Bool.{both_ways, and_parts, eqb-true, cond_both}
+use Rattle.std.proofs.lemmas.Bool.{both_ways, and_parts, eqb-true}
 use Rattle.reader.specs.declared.ids.NodeId.{NodeId}
 use Rattle.reader.specs.declared.ids.Eui64.{Eui64}
 use Rattle.reader.specs.declared.request.Request.{Request}
@@ -14,19 +14,18 @@ use Rattle.logins.specs.declared.rows.LoginEvent.TheVariants.{Reconnect as Recon
 use Rattle.logins.specs.declared.rows.LoginRow.{LoginRow}
 use Rattle.logins.specs.declared.rows.WhichHandle.TheVariants.{Own}
 use Rattle.tables.specs.Books.{Book, put_login}
-use Rattle.tables.specs.Events.{handle_to, moved_handle, swept_book}
+use Rattle.tables.specs.Events.{given_handle, handle_to, moved_handle, swept_book}
 use Rattle.tables.specs.Searches.{first, free_handle_place}
 use Rattle.rules.specs.HandleClaims.{HandleClaims}
-use Rattle.rules.specs.Logins.{login_id, rejected, own_handle, updated_row, updated, aware_update, update_in, update_of, own_handle_moved, disputed, may_reconnect, reconnect_outcome}
-use Rattle.rules.specs.Scenes.{Scene, own_login}
-use Rattle.rules.proofs.Walking.{by_test}
+use Rattle.rules.specs.Logins.{login_id, own_handle, updated_row, updated, own_handle_moved, may_reconnect}
+use Rattle.rules.specs.Scenes.{Scene}
 use Rattle.rules.proofs.HandleFollowing.{Next, next_reconnected, owner_stays_at_reconnect}
 use Rattle.rules.proofs.HandleGiving.{claims_aware}
 use Rattle.rules.proofs.HandleKeeping.{sized_as, held_below, HandlesKept, all_kept, one_kept, claims_row_kept}
 use Rattle.rules.proofs.HandlePlaces.{first_found, after_below}
 use Rattle.rules.proofs.HandleSweeping.{claims_unaware_now}
 use Rattle.rules.proofs.HandleThinning.{HandleShown}
-use Rattle.rules.proofs.HandleLogins.{Kept, After, named, handle_put, given_is_put, refused, kept_as, place_below, place_free, place_in}
+use Rattle.rules.proofs.HandleLogins.{Kept, handle_put, given_is_put, kept_as, place_below, place_free, place_in}
 
 module _ (s : Scene) (k : Kept s.shows s.book) where
   abbrev rows : List LoginRow
@@ -40,7 +39,7 @@ module _ (s : Scene) (k : Kept s.shows s.book) where
     old = row_at rows slot
 
     -- still aware, or still not
-    as_aware : q.aware ≡ old.aware → Kept s.shows (updated s q slot old)
+    pub as_aware : q.aware ≡ old.aware → Kept s.shows (updated s q slot old)
     as_aware e =
         let next : Next s.shows old (updated_row old q) =
         record {
@@ -52,41 +51,26 @@ module _ (s : Scene) (k : Kept s.shows s.book) where
         claims_row_kept s.shows rows handles k.claims slot (updated_row old q) handles next refl (all_kept s.shows rows handles k.claims)
         ) (length-set rows slot _) refl refl refl
 
-    newly_aware : (o : Option ℕ) → free_handle_place s.book ≡ o → q.aware ≡ true → old.aware ≡ false → After s (aware_update s q slot old o)
-    newly_aware None f a e = refused s k _
-    newly_aware (Some place) f a e =
+    pub newly_aware : (place : ℕ) → free_handle_place s.book ≡ Some place → q.aware ≡ true → old.aware ≡ false
+        → Kept s.shows (given_handle (updated s q slot old) place (own_handle (slot + 1) old.owner_eui_64 old.owner_id))
+    newly_aware place f a e =
         let h = own_handle (slot + 1) old.owner_eui_64 old.owner_id in
+        subst (Kept s.shows) (sym (given_is_put (updated s q slot old) place h (place_below s k place f))) (
         record {
-          kept = subst (Kept s.shows) (sym (given_is_put (updated s q slot old) place h (place_below s k place f))) (
-              record {
-                claims = claims_aware s.shows rows handles k.claims slot (updated_row old q) place old.owner_id (held_below rows slot held) (place_in s k place f) (
-                    λ w. both_ways old.aware e w.is_aware
-                    ) (place_free s k place f) (k.claims.owner_is_shown slot) (record { held = held; is_aware = a }) (λ u l. k.claims.owner_is_shown slot held l);
-                sized = sized_as s.book (handle_put (updated s q slot old) place h) k.sized (length-set rows slot _) (length-set handles place h) k.sized.next_slot (after_below handles_size place (omega arith));
-              }
-              );
+          claims = claims_aware s.shows rows handles k.claims slot (updated_row old q) place old.owner_id (held_below rows slot held) (place_in s k place f) (
+              λ w. both_ways old.aware e w.is_aware
+              ) (place_free s k place f) (k.claims.owner_is_shown slot) (record { held = held; is_aware = a }) (λ u l. k.claims.owner_is_shown slot held l);
+          sized = sized_as s.book (handle_put (updated s q slot old) place h) k.sized (length-set rows slot _) (length-set handles place h) k.sized.next_slot (after_below handles_size place (omega arith));
         }
+        )
 
-    no_longer_aware : q.aware ≡ false → Kept s.shows (swept_book (updated s q slot old) (AllOf (slot + 1)))
+    pub no_longer_aware : q.aware ≡ false → Kept s.shows (swept_book (updated s q slot old) (AllOf (slot + 1)))
     no_longer_aware a =
         kept_as s k (swept_book (updated s q slot old) (AllOf (slot + 1))) (
         claims_unaware_now s.shows rows handles k.claims slot (updated_row old q) (held_below rows slot held) (
         λ h. record { held = h; owner = refl; was_aware = λ x. absurd (both_ways q.aware a x) }
         ) (k.claims.owner_is_shown slot) a
         ) (length-set rows slot _) (length-map handles _) refl refl
-
-    update_in_after : After s (update_in s q slot old)
-    update_in_after =
-        by_test (After s) q.aware _ _ (
-        λ a. by_test (After s) old.aware _ _ (λ w. record { kept = as_aware (a ∙ sym w) }) (λ w. newly_aware (free_handle_place s.book) refl a w)
-        ) (λ a. record { kept = cond_both old.aware _ _ (Kept s.shows) (λ w. no_longer_aware a) (λ w. as_aware (a ∙ sym w)) })
-
-  pub update_after : (source : NodeId) (q : Request) (o : Option ℕ) → own_login s.book source (login_id q) ≡ o → After s (update_of s source q o)
-  update_after source q None e = refused s k _
-  update_after source q (Some slot) e =
-      by_test (After s) (rejected source q) _ _ (λ e. refused s k _) (
-      λ w. by_test (After s) (disputed s q slot) _ _ (λ e. refused s k _) (λ w. update_in_after q slot (named s.book source (login_id q) slot e).is_held)
-      )
 
   -- the same handle at another node
   pub moved_kept : (place : ℕ) (node : NodeId) → HandleShown s.shows (handle_to (handle_at handles place) node) → HandlesKept s.shows handles (set handles place (handle_to (handle_at handles place) node))
@@ -125,11 +109,8 @@ module _ (s : Scene) (k : Kept s.shows s.book) where
             )
             ) (length-set rows slot_of _) (length-set handles place _) refl refl
 
-    pub reconnect_after : After s (reconnect_outcome s source eui q)
-    reconnect_after =
-        by_test (After s) (may_reconnect s eui q) _ _ (
-        λ e.
-        let p = and_parts (leb 1 (login_id q)) _ e in
+    pub reconnect_kept : may_reconnect s eui q ≡ true → Kept s.shows (own_handle_moved back source (first (meant (login_id q) Own) 0 handles))
+    reconnect_kept may =
+        let p = and_parts (leb 1 (login_id q)) _ may in
         let r = and_parts (holder (row_at rows slot_of)) (eqb (row_at rows slot_of).owner_eui_64.0 eui.0) p.1 in
-        record { kept = reconnected (ap (λ (n : ℕ). record { 0 = n }) (eqb-true _ _ r.1)) (first (meant (login_id q) Own) 0 handles) refl }
-        ) (λ e. refused s k _)
+        reconnected (ap (λ (n : ℕ). record { 0 = n }) (eqb-true _ _ r.1)) (first (meant (login_id q) Own) 0 handles) refl

@@ -1,6 +1,6 @@
 -- What one call makes of a reserved login. Assumes that the bus is lawful.
 use Rattle.std.proofs.Common.{◌≡◌, ℕ, ◌+◌, Bool, true, false, cond, ◌||◌, sym, refl, ap, ◌∙◌, subst, arith}
-use Rattle.bus.specs.Meaning.{BusModel, Lawful}
+use Rattle.bus.specs.Meaning.{Answer, BusModel, Lawful}
 use Rattle.access.specs.Meaning.{AccessModel}
 use Rattle.reader.specs.declared.ids.NodeId.{NodeId}
 use Rattle.reader.specs.declared.request.Request.{Request as Asked}
@@ -15,7 +15,6 @@ use Rattle.rules.specs.Holds.{restart, is_gap, kind, reconnects}
 use Rattle.rules.specs.Runs.{Snapshot, Step, scene}
 use Rattle.rules.specs.Scenes.{answer_of}
 use Rattle.rules.specs.Serving.{outcome}
-use Rattle.rules.specs.declared.calls.Answer.{Answer}
 use Rattle.rules.specs.declared.calls.Call.{Call}
 use Rattle.rules.specs.declared.calls.Call.TheVariants.{Request, BusReset, NetUpdate, Gap, Tick, AccessChange, BusNote, AccessNote}
 use Rattle.rules.proofs.Calm.{Calm}
@@ -71,8 +70,8 @@ module _ {B A N : Type 0} (m : BusModel B) (n : AccessModel A N) (lawful : Lawfu
     ticking_step x Gap a y step e = ap (λ (z : Book). z.ticking) step.2
     ticking_step x Tick a y step e = ap (λ (z : Book). z.ticking) step.2 ∙ ticked_ticking x.book
     ticking_step x AccessChange a y step e = ap (λ (z : Book). z.ticking) step.3
-    ticking_step x (BusNote node eui) a y step e = ap (λ (z : Book). z.ticking) step.4
-    ticking_step x (AccessNote note) a y step e = ap (λ (z : Book). z.ticking) step.4
+    ticking_step x (BusNote node eui) a y step e = ap (λ (z : Book). z.ticking) step.2
+    ticking_step x (AccessNote note) a y step e = ap (λ (z : Book). z.ticking) step.2
 
     -- the row after a tick, by whether ticks count
     pub row_ticked : (b : Book) (t : Bool) → b.ticking ≡ t → row_at (tick_counted b).logins slot ≡ cond t (row_after (row_at b.logins slot) Ticked) (row_at b.logins slot)
@@ -107,5 +106,5 @@ module _ {B A N : Type 0} (m : BusModel B) (n : AccessModel A N) (lawful : Lawfu
       go false p = ap reserved (row_as y _ step.2 ∙ row_ticked x.book false p) ∙ h
     reserves_none x AccessChange a y step e h =
         ap reserved (row_as y _ step.3 ∙ map_at (kept_row (n.admits y.list)) x.book.logins slot free_row refl) ∙ change_reserves_none (n.admits y.list) (row x) h
-    reserves_none x (BusNote node eui) a y step e h = ap reserved (row_as y _ step.4) ∙ h
-    reserves_none x (AccessNote note) a y step e h = ap reserved (row_as y _ step.4) ∙ h
+    reserves_none x (BusNote node eui) a y step e h = ap reserved (row_as y _ step.2) ∙ h
+    reserves_none x (AccessNote note) a y step e h = ap reserved (row_as y _ step.2) ∙ h

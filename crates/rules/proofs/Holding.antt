@@ -1,7 +1,7 @@
 -- A reserved login through every call until the next reset or net update. Assumes that the bus is lawful.
 use Rattle.std.proofs.Common.{◌≡◌, ℕ, ◌+◌, ◌-◌, ◌<◌, Bool, true, false, cond, not, ◌&&◌, ◌||◌, leb, ◌⊎◌, List, [], ◌∷◌, ◌++◌, sym, refl, ap, ◌∙◌, subst, inl, inr, arith}
 use Rattle.std.proofs.lemmas.Bool.{both_ways, and_parts, and_from, and_right, leb-true, leb-false}
-use Rattle.bus.specs.Meaning.{BusModel, Lawful}
+use Rattle.bus.specs.Meaning.{Answer, BusModel, Lawful}
 use Rattle.access.specs.Meaning.{AccessModel}
 use Rattle.reader.specs.declared.ids.NodeId.{NodeId}
 use Rattle.reader.specs.declared.request.Request.{Request as Asked}
@@ -11,7 +11,6 @@ use Rattle.logins.specs.declared.rows.LoginRow.{LoginRow}
 use Rattle.tables.specs.Events.{kept_row}
 use Rattle.rules.specs.Holds.{restart, change, is_gap, is_tick, kind, reconnects, Unrestarted, Unclaimed, gap_came, ticks_after_gap, WasFree, KeptFor, HoldKept, HoldsKept, HoldsKeptIn}
 use Rattle.rules.specs.Runs.{Snapshot, Event, Step, Run, New, now_at}
-use Rattle.rules.specs.declared.calls.Answer.{Answer}
 use Rattle.rules.specs.declared.calls.Call.{Call}
 use Rattle.rules.specs.declared.calls.Call.TheVariants.{Request, BusReset, NetUpdate, Gap, Tick, AccessChange, BusNote, AccessNote}
 use Rattle.rules.proofs.LastHold.{hold_at_restart}
@@ -160,8 +159,8 @@ module _ {B A N : Type 0} (m : BusModel B) (n : AccessModel A N) (lawful : Lawfu
         next Gap step e now = inl (stays x y Gap a es refl (λ h. absurd (let z : ◌≡◌ {A = ℕ} 0 1 = cc in omega arith)) refl (row_as m n lawful slot y _ step.2) u)
         next Tick step e now = tick_next step now
         next AccessChange step e now = change_next step
-        next (BusNote node eui) step e now = inl (stays x y (BusNote node eui) a es refl (λ h. absurd (let z : ◌≡◌ {A = ℕ} 0 1 = cc in omega arith)) refl (row_as m n lawful slot y _ step.4) u)
-        next (AccessNote note) step e now = inl (stays x y (AccessNote note) a es refl (λ h. absurd (let z : ◌≡◌ {A = ℕ} 0 1 = cc in omega arith)) refl (row_as m n lawful slot y _ step.4) u)
+        next (BusNote node eui) step e now = inl (stays x y (BusNote node eui) a es refl (λ h. absurd (let z : ◌≡◌ {A = ℕ} 0 1 = cc in omega arith)) refl (row_as m n lawful slot y _ step.2) u)
+        next (AccessNote note) step e now = inl (stays x y (AccessNote note) a es refl (λ h. absurd (let z : ◌≡◌ {A = ℕ} 0 1 = cc in omega arith)) refl (row_as m n lawful slot y _ step.2) u)
 
       -- either way, and ticks count from the first gap on
       record Tracked (since : List (Event B A N)) (now : Snapshot B A) : Type 0 where

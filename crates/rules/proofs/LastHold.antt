@@ -2,7 +2,7 @@
 use Rattle.std.proofs.Common.{◌≡◌, ℕ, Bool, true, false, cond, List, [], ◌∷◌, map, sym, refl, ap, ◌∙◌, subst, arith}
 use Rattle.std.proofs.lemmas.Bool.{both_ways}
 use Rattle.bus.specs.Finding.{local_of}
-use Rattle.bus.specs.Meaning.{BusModel}
+use Rattle.bus.specs.Meaning.{Answer, BusModel}
 use Rattle.access.specs.Meaning.{AccessModel}
 use Rattle.logins.specs.Logins.{holder, free_row, row_after}
 use Rattle.logins.specs.Rows.{logins_size, row_at}
@@ -14,7 +14,6 @@ use Rattle.rules.specs.Holds.{restart, kind, gives_hold, hold_in, last_hold}
 use Rattle.rules.specs.Runs.{Snapshot, Event, Step, Run, New, now_at, scene}
 use Rattle.rules.specs.Scenes.{answer_of, book_after}
 use Rattle.rules.specs.Serving.{outcome}
-use Rattle.rules.specs.declared.calls.Answer.{Answer}
 use Rattle.rules.specs.declared.calls.Call.{Call}
 use Rattle.rules.specs.declared.calls.Call.TheVariants.{Request, BusReset, NetUpdate, Gap, Tick, AccessChange, BusNote, AccessNote}
 use Rattle.rules.proofs.HoldGiving.{hold_as_asked, hold_as_before}
@@ -63,8 +62,8 @@ module _ {B A N : Type 0} (m : BusModel B) (n : AccessModel A N) (slot : ℕ) wh
       )
       )
   step_gives x AccessChange a y step = silent x AccessChange a y refl (like_rows x y _ step.3 (each x (kept_row (n.admits y.list)) (like_kept (n.admits y.list))))
-  step_gives x (BusNote node e) a y step = silent x (BusNote node e) a y refl (like_rows x y _ step.4 (like_same (row x)))
-  step_gives x (AccessNote note) a y step = silent x (AccessNote note) a y refl (like_rows x y _ step.4 (like_same (row x)))
+  step_gives x (BusNote node e) a y step = silent x (BusNote node e) a y refl (like_rows x y _ step.2 (like_same (row x)))
+  step_gives x (AccessNote note) a y step = silent x (AccessNote note) a y refl (like_rows x y _ step.2 (like_same (row x)))
 
   pub hold_is_last : (start : Snapshot B A) → New start → (history : List (Event B A N)) → Run m n start history → holder (row (now_at start history)) ≡ true
       → (row (now_at start history)).hold ≡ last_hold start slot history

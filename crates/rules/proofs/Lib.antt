@@ -5,6 +5,7 @@ pub mod Thinning
 pub mod Claims
 pub mod Granting
 pub mod Walking
+pub mod Walks
 pub mod Served
 pub mod Running
 pub mod Calm

@@ -1,7 +1,7 @@
 -- Claims hold after every call, and so after every run. Assumes that the access list is lawful.
 use Rattle.std.proofs.Common.{◌≡◌, ℕ, Bool, true, false, cond, not, ◌&&◌, List, [], ◌∷◌, map, replicate, sym, refl, ap, subst}
 use Rattle.std.proofs.lemmas.Bool.{both_ways}
-use Rattle.bus.specs.Meaning.{BusModel}
+use Rattle.bus.specs.Meaning.{Answer, BusModel}
 use Rattle.bus.specs.Finding.{local_of}
 use Rattle.access.specs.Meaning.{AccessModel, Lawful}
 use Rattle.reader.specs.declared.ids.Eui64.{Eui64}
@@ -13,7 +13,6 @@ use Rattle.tables.specs.Books.{Book}
 use Rattle.tables.specs.Events.{kept_row, reset_row, tick_counted}
 use Rattle.rules.specs.Claims.{Claims}
 use Rattle.rules.specs.Runs.{Snapshot, Event, Step, Run, New, now_at, scene}
-use Rattle.rules.specs.declared.calls.Answer.{Answer}
 use Rattle.rules.specs.declared.calls.Call.{Call}
 use Rattle.rules.specs.declared.calls.Call.TheVariants.{Request, BusReset, NetUpdate, Gap, Tick, AccessChange, BusNote, AccessNote}
 use Rattle.rules.proofs.Claims.{claims_thinner}
@@ -78,10 +77,10 @@ module _ {B A N : Type 0} (m : BusModel B) (n : AccessModel A N) (lawful : Lawfu
   step_holds x Tick a y step c = moved_on x y _ (ticked x c) step.1.list step.2
   step_holds x AccessChange a y step c =
       subst (λ (z : Book). Claims (n.admits y.list) z.logins) (sym step.3) (claims_changed (n.admits x.list) (n.admits y.list) x.book.logins c)
-  step_holds x (BusNote node e) a y step c = moved_on x y _ c step.3 step.4
+  step_holds x (BusNote node e) a y step c = moved_on x y _ c step.1 step.2
   step_holds x (AccessNote note) a y step c =
-      subst (λ (z : Book). Claims (n.admits y.list) z.logins) (sym step.4) (
-      subst (λ (f : Eui64 → ℕ → Bool). Claims f x.book.logins) (sym (lawful.note_keeps_admitted x.list y.list note step.0 step.2)) c
+      subst (λ (z : Book). Claims (n.admits y.list) z.logins) (sym step.2) (
+      subst (λ (f : Eui64 → ℕ → Bool). Claims f x.book.logins) (sym (lawful.note_keeps_admitted x.list y.list note a step.0)) c
       )
 
   pub claims_hold : (start : Snapshot B A) → New start → (history : List (Event B A N)) → Run m n start history → Held (now_at start history)

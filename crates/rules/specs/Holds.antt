@@ -1,17 +1,15 @@
 -- What is promised of a login that a reset or a net update left reserved. Assumes nothing.
-use Rattle.std.specs.Prelude.{◌≡◌, ℕ, ◌+◌, ◌-◌, ◌<◌, Bool, true, false, cond, not, ◌&&◌, ◌||◌, ◌⊎◌, List, [], ◌∷◌, ◌++◌, ◌==◌, ◌≢◌}
+use Rattle.std.specs.Prelude.{◌≡◌, ℕ, ◌+◌, ◌-◌, ◌<◌, Bool, true, false, cond, not, ◌&&◌, ◌||◌, ◌⊎◌, List, [], ◌∷◌, ◌++◌, Ok, Err, ◌==◌, ◌≢◌}
 use Rattle.reader.specs.declared.ids.Eui64.{Eui64}
 use Rattle.reader.specs.declared.request.Function.{Function}
 use Rattle.reader.specs.declared.request.Function.TheVariants.{Login, QueryLogins, Reconnect, NodeHandle, Logout, Unknown}
-use Rattle.bus.specs.Meaning.{BusModel}
+use Rattle.bus.specs.Meaning.{Answer, BusModel}
 use Rattle.access.specs.Meaning.{AccessModel}
 use Rattle.logins.specs.Logins.{holder, reserved, moved, nowhere}
 use Rattle.logins.specs.Rows.{row_at}
 use Rattle.logins.specs.declared.rows.LoginRow.{LoginRow}
 use Rattle.rules.specs.Logins.{hold_of}
 use Rattle.rules.specs.Runs.{Snapshot, Event, Run, now_at}
-use Rattle.rules.specs.declared.calls.Answer.{Answer}
-use Rattle.rules.specs.declared.calls.Answer.TheVariants.{Granted, Refused}
 use Rattle.rules.specs.declared.calls.Call.{Call}
 use Rattle.rules.specs.declared.calls.Call.TheVariants.{Request, BusReset, NetUpdate, Gap, Tick, AccessChange, BusNote, AccessNote}
 
@@ -64,8 +62,8 @@ is_reconnect Logout = false
 is_reconnect (Unknown n) = false
 
 abbrev pub granted : Answer → Bool
-granted Granted = true
-granted (Refused r) = false
+granted (Ok done) = true
+granted (Err r) = false
 
 -- a granted reconnect that names a login ID
 abbrev pub reconnects : {N : Type 0} → ℕ → Call N → Answer → Bool

@@ -2,7 +2,7 @@
 use Rattle.std.specs.Prelude.{◌≡◌, ℕ, ◌+◌, Bool, true, false, List, ◌≢◌}
 use Rattle.reader.specs.declared.ids.NodeId.{NodeId}
 use Rattle.reader.specs.declared.request.Request.{Request}
-use Rattle.bus.specs.Meaning.{BusModel}
+use Rattle.bus.specs.Meaning.{Answer, BusModel}
 use Rattle.access.specs.Meaning.{AccessModel}
 use Rattle.logins.specs.Logins.{reserved}
 use Rattle.logins.specs.Rows.{row_at}
@@ -10,7 +10,6 @@ use Rattle.rules.specs.Holds.{Kind, kind, reconnects}
 use Rattle.rules.specs.Runs.{Snapshot, Step}
 use Rattle.rules.specs.Scenes.{Scene, Outcome, answer_of, book_after, stored}
 use Rattle.rules.specs.Serving.{outcome}
-use Rattle.rules.specs.declared.calls.Answer.{Answer}
 use Rattle.rules.specs.declared.calls.Call.{Call}
 use Rattle.rules.specs.declared.calls.Call.TheVariants.{Request as Asked}
 

@@ -1,13 +1,11 @@
 -- Every call as a step, and every order of calls as a run, over any bus and any access list. Assumes nothing.
-use Rattle.std.specs.Prelude.{◌≡◌, true, List, [], ◌∷◌, Ok, Err}
-use Rattle.bus.specs.Meaning.{BusModel}
+use Rattle.std.specs.Prelude.{◌≡◌, true, List, [], ◌∷◌}
+use Rattle.bus.specs.Meaning.{Answer, granted, BusModel}
 use Rattle.access.specs.Meaning.{AccessModel}
 use Rattle.tables.specs.Books.{Book, new_book}
 use Rattle.tables.specs.Events.{was_reset, net_updated, ticking_so, tick_counted, access_changed}
 use Rattle.rules.specs.Scenes.{Scene, answer_of, book_after}
 use Rattle.rules.specs.Serving.{outcome}
-use Rattle.rules.specs.declared.calls.Answer.{Answer}
-use Rattle.rules.specs.declared.calls.Answer.TheVariants.{Granted, Refused}
 use Rattle.rules.specs.declared.calls.Call.{Call}
 use Rattle.rules.specs.declared.calls.Call.TheVariants.{Request, BusReset, NetUpdate, Gap, Tick, AccessChange, BusNote, AccessNote}
 
@@ -16,11 +14,6 @@ pub record Snapshot (B A : Type 0) : Type 0 where
   pub bus : B
   pub list : A
   pub book : Book
-
--- what a note is answered, as a call's answer
-abbrev pub note_answer : Rattle.bus.specs.Meaning.Answer → Answer
-note_answer (Ok done) = Granted
-note_answer (Err refusal) = Refused refusal
 
 module _ {B A N : Type 0} (m : BusModel B) (n : AccessModel A N) where
   -- what a request meets there
@@ -37,16 +30,14 @@ module _ {B A N : Type 0} (m : BusModel B) (n : AccessModel A N) where
   abbrev pub Step : Snapshot B A → Call N → Answer → Snapshot B A → Type 0
   Step x (Request source q) a y =
       (a ≡ answer_of (outcome (scene x) source q)) × SameBelow x y × (y.book ≡ book_after x.book (outcome (scene x) source q))
-  Step x BusReset a y = (a ≡ Granted) × m.Resets x.bus y.bus × (y.list ≡ x.list) × (y.book ≡ was_reset (m.shows y.bus) x.book)
-  Step x NetUpdate a y = (a ≡ Granted) × m.Updates x.bus y.bus × (y.list ≡ x.list) × (y.book ≡ net_updated x.book)
-  Step x Gap a y = (a ≡ Granted) × SameBelow x y × (y.book ≡ ticking_so x.book true)
-  Step x Tick a y = (a ≡ Granted) × SameBelow x y × (y.book ≡ tick_counted x.book)
+  Step x BusReset a y = (a ≡ granted) × m.Resets x.bus y.bus × (y.list ≡ x.list) × (y.book ≡ was_reset (m.shows y.bus) x.book)
+  Step x NetUpdate a y = (a ≡ granted) × m.Updates x.bus y.bus × (y.list ≡ x.list) × (y.book ≡ net_updated x.book)
+  Step x Gap a y = (a ≡ granted) × SameBelow x y × (y.book ≡ ticking_so x.book true)
+  Step x Tick a y = (a ≡ granted) × SameBelow x y × (y.book ≡ tick_counted x.book)
   Step x AccessChange a y =
-      (a ≡ Granted) × n.Changes x.list y.list × (y.bus ≡ x.bus) × (y.book ≡ access_changed (n.admits y.list) x.book)
-  Step x (BusNote node e) a y =
-      (r : Rattle.bus.specs.Meaning.Answer) × (a ≡ note_answer r) × m.Notes x.bus node e r y.bus × (y.list ≡ x.list) × (y.book ≡ x.book)
-  Step x (AccessNote note) a y =
-      (r : Rattle.bus.specs.Meaning.Answer) × (a ≡ note_answer r) × n.Notes x.list note r y.list × (y.bus ≡ x.bus) × (y.book ≡ x.book)
+      (a ≡ granted) × n.Changes x.list y.list × (y.bus ≡ x.bus) × (y.book ≡ access_changed (n.admits y.list) x.book)
+  Step x (BusNote node e) a y = m.Notes x.bus node e a y.bus × (y.list ≡ x.list) × (y.book ≡ x.book)
+  Step x (AccessNote note) a y = n.Notes x.list note a y.list × (y.bus ≡ x.bus) × (y.book ≡ x.book)
 
 -- a call with its answer, and the target after it
 pub record Event (B A N : Type 0) : Type 0 where

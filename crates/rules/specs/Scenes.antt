@@ -1,13 +1,12 @@
 -- What a request meets, and what can come of it. Assumes nothing.
-use Rattle.std.specs.Prelude.{ℕ, ◌-◌, Bool, cond, ◌&&◌, List, [], ◌++◌, length, drop, Some, None, Option, ◌==◌, nat_le}
+use Rattle.std.specs.Prelude.{ℕ, ◌-◌, Bool, cond, ◌&&◌, List, [], ◌++◌, length, drop, Some, None, Err, Option, ◌==◌, nat_le}
 use Rattle.reader.specs.declared.ids.NodeId.{NodeId}
 use Rattle.reader.specs.declared.ids.Eui64.{Eui64}
 use Rattle.reader.specs.declared.refusal.Refusal.{Refusal}
+use Rattle.bus.specs.Meaning.{Answer, granted}
 use Rattle.logins.specs.Logins.{active}
 use Rattle.logins.specs.Rows.{row_at}
 use Rattle.tables.specs.Books.{Book}
-use Rattle.rules.specs.declared.calls.Answer.{Answer}
-use Rattle.rules.specs.declared.calls.Answer.TheVariants.{Granted, Refused}
 
 -- the meaning of the bus, the set of the access list, and the tables
 pub record Scene : Type 0 where
@@ -22,8 +21,8 @@ pub data Outcome : Type 0 where
   grant : List ℕ → Book → Outcome
 
 abbrev pub answer_of : Outcome → Answer
-answer_of (refuse r) = Refused r
-answer_of (grant bytes b) = Granted
+answer_of (refuse r) = Err r
+answer_of (grant bytes b) = granted
 
 -- a refusal changes nothing
 abbrev pub book_after : Book → Outcome → Book

@@ -16,8 +16,5 @@ pub enum Call<N> {
     AccessNote(N),
 }
 
-#[derive(Clone, Copy)]
-pub enum Answer {
-    Granted,
-    Refused(Refusal),
-}
+/// What a call is answered: it is granted, or refused.
+pub type Answer = Result<(), Refusal>;

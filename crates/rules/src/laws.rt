@@ -5,14 +5,13 @@ ghost use Rattle.rules.specs.Law.{Law, LawAfterRuns};
 ghost use Rattle.rules.specs.Holds.{restart, gap};
 ghost use Rattle.rules.specs.Laws.{ChangesNothing, ReservesOnly, LeavesReserved};
 ghost use Rattle.rules.specs.Runs.{New};
-ghost use Rattle.rules.specs.declared.calls.Answer.TheVariants.{Granted, Refused};
 
 use access::Access;
 use bus::Bus;
 
 /// A refused request leaves the tables and the response area as they were.
 pub fn refusal_changes_nothing()
-    ensures { (r : Refusal) → ChangesNothing (Refused r) }
+    ensures { (r : Refusal) → ChangesNothing (Err r) }
 {}
 
 /// No call but a reset or a net update makes a login reserved.

@@ -1,8 +1,8 @@
 use Rattle.std.proofs.Common.{◌+◌, List, [], ◌∷◌, take, vec_items, sym, refl, ap, subst}
 use Rattle.std.proofs.lemmas.List.{take_all}
 use Rattle.std.proofs.lemmas.Slice.{pushed}
+use Rattle.bus.specs.Meaning.{Answer}
 use Rattle.rules.specs.Runs.{Snapshot, Step}
-use Rattle.rules.specs.declared.calls.Answer.{Answer}
 use Rattle.rules.specs.declared.calls.Call.{Call}
 use Rattle.agent.specs.Plays.{Plays, LawAbiding}
 use Rattle.agent.specs.Targets.{snapshot_of}

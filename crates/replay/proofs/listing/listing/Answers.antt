@@ -1,9 +1,9 @@
 use Rattle.std.proofs.Common.{◌≡◌, ℕ, List, ◌++◌, length, vec_items, string_bytes, sym, refl, ap, ◌∙◌}
 use Rattle.std.proofs.lemmas.List.{length-map}
 use Rattle.std.proofs.lemmas.Slice.{pushed}
+use Rattle.bus.specs.Meaning.{Answer}
 use Rattle.journal.specs.Entries.{entry, entries}
 use Rattle.journal.specs.declared.record.Record.{Record}
-use Rattle.rules.specs.declared.calls.Answer.{Answer}
 use Rattle.replay.specs.Cabinets.{new_cabinet, answers}
 use Rattle.replay.specs.Calls.{calls_of}
 use Rattle.replay.specs.Drawing.{numbers_from}

@@ -1,7 +1,7 @@
 use Rattle.std.proofs.Common.{List, drop, Ok, Result, sym, ap, ◌∙◌, arith, length-drop, rules}
 use Rattle.std.proofs.lemmas.List.{nil_from_length, take_all}
 use Rattle.reader.specs.declared.refusal.Refusal.{Refusal}
-use Rattle.rules.specs.declared.calls.Answer.{Answer}
+use Rattle.bus.specs.Meaning.{Answer}
 use Rattle.replay.specs.Cabinets.{CabinetCall}
 use Rattle.replay.specs.Drawing.{next_number, answers_left}
 use Rattle.replay.proofs.listing.next_number.Goals as goal
@@ -10,7 +10,7 @@ pub returns-in-len1-up : goal.returns-in-len1-up
 returns-in-len1-up c =
     let left = c.args.left.now in
     record {
-      number = c.answer_number.ensures ∙ ap (λ (r : Result CabinetCall Refusal). next_number r left) c.in-Ok.ensures;
+      number = c.status.ensures ∙ ap (λ (r : Result CabinetCall Refusal). next_number r left) c.in-Ok.ensures;
       rest = take_all _ (drop 1 left) (omega (arith, length-drop 1 left)) ∙ ap (λ (r : Result CabinetCall Refusal). answers_left r left) c.in-Ok.ensures;
     }
 

@@ -6,11 +6,11 @@ use Rattle.replay.specs.Listings.{drawn, after_record}
 use Rattle.replay.proofs.Performing.{other_record}
 use Rattle.replay.proofs.driving.Cabinet.perform.Goals as goal
 
-pub returns-in-Ok : goal.returns-in-Ok
-returns-in-Ok c =
+pub returns : goal.returns
+returns c =
     let before = data_of c.args.self.now in
     record {
-      effect = c.quiet.ensures ∙ ap quiet c.make.ensures.answer ∙ ap (λ (r : Result CabinetCall Refusal). quiet (drawn before r)) c.in-Ok.ensures
+      effect = c.quiet.ensures ∙ ap quiet c.make.ensures.answer ∙ ap (λ (r : Result CabinetCall Refusal). quiet (drawn before r)) c.call_of.ensures
           ∙ other_record before c.args.record c.in_default.not-Request;
-      after = c.make.ensures.after ∙ ap (after_record before) c.in-Ok.ensures;
+      after = c.make.ensures.after ∙ ap (after_record before) c.call_of.ensures;
     }
