@@ -1,7 +1,7 @@
 // Reading a journal: one record after another, each in exactly one form.
-ghost use Rattle.std.specs.Prelude.{◌≡◌, IfOk, MatchOption};
+ghost use Rattle.std.specs.Prelude.{◌≡◌, IfOk, MatchOption, length};
 ghost use Rattle.journal.specs.Entries.{entry, entries, EntryAt, NoEntry};
-ghost use Rattle.journal.specs.Journals.{Reads};
+ghost use Rattle.journal.specs.Journals.{Reads, ending};
 ghost use Rattle.journal.specs.Reading.{entry_seen, entry_at, request_at, bus_note_at, pair_note_at, stop_note_at};
 
 use crate::numbers::{read_half, read_number};
@@ -97,6 +97,21 @@ pub fn read_record(bytes: &[u8]) -> Option<(Record<'_>, &[u8])>
 pub struct Journal<'a> {
     pub records: Vec<Record<'a>>,
     pub refusal: Option<Refusal>,
+}
+
+impl Journal<'_> {
+    /// Why reading stopped before the journal's end, and the count of the record at which it did; a journal that is too
+    /// long has no record, and the count 0.
+    pub fn end(&self) -> Option<(usize, Refusal)>
+        ensures { result ≡ ending (length (entries self.now.records.items)) self.now.refusal }
+    {
+        let refusal = self.refusal?;
+        let count = match refusal {
+            Refusal::JournalTooLong(_) => 0,
+            _ => self.records.len() + 1,
+        };
+        Some((count, refusal))
+    }
 }
 
 /// All records of a journal, up to the first that is malformed.
