@@ -3,7 +3,7 @@ use Rattle.std.proofs.Common.{◌≡◌, ℕ, ◌+◌, ◌<◌, ◌≤◌, Bool,
 use Rattle.std.proofs.lemmas.List.{append-nil}
 use Rattle.std.proofs.lemmas.Bool.{cond-true, cond-false}
 use Rattle.effects.specs.Lists.{listed}
-use Rattle.effects.proofs.Growing.{grown, whole}
+use Rattle.words.proofs.Growing.{grown, whole}
 
 module _ {X : Type 0} (test : X → Bool) (part : Bool → ℕ → X → List ℕ) (end : Bool → List ℕ) (xs : List X) (k : ℕ) (first : Bool) (was all : List ℕ) (so_far : was ++ listed test part end first k (drop k xs) ≡ all) where
   pub listed_all : (after : List ℕ) → length xs ≤ k → after ≡ was ++ end first → after ≡ all

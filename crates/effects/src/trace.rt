@@ -33,24 +33,6 @@ fn layer_word(layer: Layer) -> &'static str
     }
 }
 
-fn mark(set: bool) -> &'static str
-    ensures { result.now ≡ mark_text set }
-{
-    if set { "1" } else { "0" }
-}
-
-fn comma(first: bool) -> &'static str
-    ensures { result.now ≡ comma first }
-{
-    if first { "" } else { "," }
-}
-
-fn hyphen(first: bool) -> &'static str
-    ensures { result.now ≡ hyphen first }
-{
-    if first { "-" } else { "" }
-}
-
 // Number, layer and value.
 fn drew_words(heap: Global, refusal: Option<Refusal>) -> Result<String, AllocError>
     ensures { IfOk result (λ s. string_bytes s ≡ drew_text refusal) }

@@ -2,7 +2,7 @@ use Rattle.std.proofs.Common.{◌≡◌, ℕ, List, ◌++◌, get_or, string_byt
 use Rattle.std.proofs.lemmas.List.{append-nil}
 use Rattle.reader.specs.Texts.{hex2}
 use Rattle.effects.specs.Trace.{hex_bytes}
-use Rattle.effects.proofs.Growing.{grown, whole}
+use Rattle.words.proofs.Growing.{grown, whole}
 use Rattle.effects.proofs.trace.hex_words.Goals as goal
 
 pub loop-byte-preserved : goal.loop-byte-preserved
