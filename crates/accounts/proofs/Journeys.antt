@@ -4,7 +4,7 @@ use Rattle.std.proofs.lemmas.List.{append-nil, at_drop_more, at_drop_all}
 use Rattle.journal.specs.Entries.{Entry, entry, entries}
 use Rattle.journal.specs.declared.record.Record.{Record}
 use Rattle.accounts.specs.Journeys.{after_all, told_all}
-use Rattle.effects.proofs.Growing.{grown, whole}
+use Rattle.words.proofs.Growing.{grown, whole}
 
 module _ {C : Type 0} (step : C → Entry → C) (part : ℕ → C → Entry → List ℕ) (rs : List Record) (k : ℕ) (c : C) where
   -- what the records from k on make of it

@@ -1,8 +1,7 @@
 // The account of a journal that is run through a new cabinet.
-ghost use Rattle.std.specs.Prelude.{◌≡◌, ◌^◌, ◌<◌, IfOk, string_bytes};
+ghost use Rattle.std.specs.Prelude.{◌≡◌, IfOk, string_bytes};
 ghost use Rattle.tables.specs.Books.{book_of};
 ghost use Rattle.journal.specs.Entries.{entry, entries};
-ghost use Rattle.words.specs.Lines.{end_number, end_text};
 ghost use Rattle.replay.specs.Cabinets.{new_cabinet};
 ghost use Rattle.replay.specs.Driving.{data_of};
 ghost use Rattle.accounts.specs.Accounts.{effect_account, record_account, Accounted};
@@ -12,12 +11,12 @@ ghost use Rattle.accounts.specs.Traces.{after_entry};
 use effects::account::account_lines;
 use journal::reading::read_journal;
 use journal::record::Record;
-use reader::refusal::Refusal;
 use replay::driving::{Cabinet, Effect};
 use std::alloc::{AllocError, Global};
 use tables::tables::Tables;
-use words::lines::line;
+use words::lines::end_words;
 
+#[tactic(auto, using(crate::proofs::Fronts::take_min))]
 fn account_effect(
     heap: Global,
     shown: bool,
@@ -59,27 +58,6 @@ fn account_records(heap: Global, shown: bool, records: &[Record<'_>]) -> Result<
     Ok(text)
 }
 
-// The count of the record that was refused; a journal that is too long has none.
-fn end_count(read: usize, refusal: Refusal) -> usize
-    requires { read < 2 ^ 63 }
-    ensures { result ≡ end_number read refusal }
-{
-    if refusal.number() == 40 { 0 } else { read + 1 }
-}
-
-// Why reading stopped, if it did.
-fn why_no_more(heap: Global, read: usize, refusal: Option<Refusal>) -> Result<String, AllocError>
-    requires { read < 2 ^ 63 }
-    ensures { IfOk result (λ s. string_bytes s ≡ end_text read refusal) }
-{
-    let Some(refusal) = refusal else {
-        return Ok(String::new(heap));
-    };
-    let count = end_count(read, refusal);
-    let words = format!(in heap; "refused        {refusal}")?;
-    line(heap, count, words.as_str())
-}
-
 /// Each record of a journal, what it drew from a new cabinet, and if they are asked for the tables after it; then why
 /// reading stopped, if it did.
 pub fn account(heap: Global, bytes: &[u8], shown: bool) -> Result<String, AllocError>
@@ -87,7 +65,7 @@ pub fn account(heap: Global, bytes: &[u8], shown: bool) -> Result<String, AllocE
 {
     let journal = read_journal(heap, bytes)?;
     let mut text = account_records(heap, shown, journal.records.as_slice())?;
-    let end = why_no_more(heap, journal.records.len(), journal.refusal)?;
+    let end = end_words(heap, &journal)?;
     text.push_str(end.as_str())?;
     Ok(text)
 }

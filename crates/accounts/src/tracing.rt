@@ -1,5 +1,5 @@
 // The trace of a journal that is run through a new cabinet.
-ghost use Rattle.std.specs.Prelude.{◌≡◌, ◌^◌, ◌<◌, IfOk, string_bytes};
+ghost use Rattle.std.specs.Prelude.{◌≡◌, IfOk, length, string_bytes};
 ghost use Rattle.tables.specs.Books.{book_of};
 ghost use Rattle.journal.specs.Entries.{entry, entries};
 ghost use Rattle.replay.specs.Driving.{data_of};
@@ -7,13 +7,14 @@ ghost use Rattle.accounts.specs.Journeys.{after_all, told_all};
 ghost use Rattle.accounts.specs.Traces.{after_entry, effect_text, record_trace, end_trace, Traced};
 
 use effects::trace::trace_line;
-use journal::reading::read_journal;
+use journal::reading::{Journal, read_journal};
 use journal::record::Record;
 use reader::refusal::Refusal;
 use replay::driving::{Cabinet, Effect};
 use std::alloc::{AllocError, Global};
 use tables::tables::Tables;
 
+#[tactic(auto, using(crate::proofs::Fronts::take_min))]
 fn trace_effect(
     heap: Global,
     count: usize,
@@ -23,9 +24,8 @@ fn trace_effect(
     ensures { IfOk result (λ s. string_bytes s ≡ effect_text count effect (book_of tables.now)) }
 {
     let refusal = effect.answer.err();
-    let status = effect.status;
     let response = effect.response();
-    match status {
+    match effect.status {
         Some(block) => trace_line(heap, count, refusal, response, &block, tables),
         None => trace_line(heap, count, refusal, response, &[], tables),
     }
@@ -60,23 +60,14 @@ fn trace_records(
 }
 
 // Why reading stopped, if it did.
-fn end_line(
-    heap: Global,
-    read: usize,
-    refusal: Option<Refusal>,
-    tables: &Tables,
-) -> Result<String, AllocError>
-    requires { read < 2 ^ 63 }
-    ensures { IfOk result (λ s. string_bytes s ≡ end_trace read refusal (book_of tables.now)) }
+fn end_line(heap: Global, journal: &Journal<'_>, tables: &Tables) -> Result<String, AllocError>
+    ensures { IfOk result (λ s. string_bytes s ≡ end_trace (length (entries journal.now.records.items)) journal.now.refusal (book_of tables.now)) }
 {
-    let Some(why) = refusal else {
-        return Ok(String::new(heap));
-    };
-    if why.number() == 40 {
-        let length = why.value();
-        return format!(in heap; "0 40 - {length}\n");
+    match journal.end() {
+        None => Ok(String::new(heap)),
+        Some((_, Refusal::JournalTooLong(length))) => format!(in heap; "0 40 - {length}\n"),
+        Some((count, refusal)) => trace_line(heap, count, Some(refusal), &[], &[], tables),
     }
-    trace_line(heap, read + 1, refusal, &[], &[], tables)
 }
 
 /// All that each record of a journal did to a new cabinet, one line a record, and one that says why reading stopped, if
@@ -87,12 +78,7 @@ pub fn trace_journal(heap: Global, bytes: &[u8]) -> Result<String, AllocError>
     let journal = read_journal(heap, bytes)?;
     let mut cabinet = Cabinet::new();
     let mut text = trace_records(heap, &mut cabinet, journal.records.as_slice())?;
-    let end = end_line(
-        heap,
-        journal.records.len(),
-        journal.refusal,
-        cabinet.tables(),
-    )?;
+    let end = end_line(heap, &journal, cabinet.tables())?;
     text.push_str(end.as_str())?;
     Ok(text)
 }

@@ -40,10 +40,6 @@ fn bus_note(node: NodeId, eui_64: Eui64) -> Record<'static> {
     Record::BusNote { node, eui_64 }
 }
 
-fn gap() -> Record<'static> {
-    Record::Gap
-}
-
 #[test]
 fn numbers_are_written_in_groups_of_seven_bits(rt: HostRuntime) -> Result<(), Fail> {
     let mut records = Vec::new(rt.alloc());
@@ -111,22 +107,18 @@ const SAMPLE: [u8; 56] = [
 #[test]
 fn every_front_of_a_journal_is_whole_or_cut_short(rt: HostRuntime) -> Result<(), Fail> {
     let heap = rt.alloc();
-    let starts = [0, 1, 2, 3, 4, 5, 10, 14, 17, 56];
-    let mut records = 0;
+    let ends = [1, 2, 3, 4, 5, 10, 14, 17, 56];
     for cut in 0..=56usize {
         let (count, refusal) = read(heap, &SAMPLE[0..cut])?;
-        if records < 9 && starts[records + 1] == cut {
-            records += 1;
-        }
-        assert!(rt; count == records && records < 10);
-        let expected = if starts[records] == cut {
+        let whole = ends.iter().filter(|end| **end <= cut);
+        let start = ends.iter().rfind(|end| **end <= cut).copied().unwrap_or(0);
+        let expected = if start == cut {
             None
         } else {
-            Some(Refusal::MalformedRecord(starts[records]))
+            Some(Refusal::MalformedRecord(start))
         };
-        assert!(rt; refusal == expected);
+        assert!(rt; count == whole.count() && refusal == expected);
     }
-    assert!(rt; records == 9);
     Ok(())
 }
 
@@ -144,7 +136,7 @@ fn a_journal_has_at_most_65536_bytes(rt: HostRuntime) -> Result<(), Fail> {
 #[test]
 fn a_journal_is_written_whole_or_not_at_all(rt: HostRuntime) -> Result<(), Fail> {
     let mut records = Vec::new(rt.alloc());
-    records.push(gap())?;
+    records.push(Record::Gap)?;
     records.push(bus_note(NodeId(300), Eui64::NONE))?;
     assert!(rt; journal_len(records.as_slice()) == 14);
     let mut short = [0xAA; 13];
@@ -166,10 +158,7 @@ fn an_accepted_journal_is_written_back_the_same(rt: HostRuntime) -> Result<(), F
     let mut area = [0xAA; 57];
     let copied = read_then_write(rt.alloc(), &SAMPLE, &mut area)?;
     assert!(rt; matches!(copied, Ok(56)));
-    assert!(rt; area[56] == 0xAA);
-    for i in 0..56usize {
-        assert!(rt; area[i] == SAMPLE[i]);
-    }
+    assert!(rt; area.starts_with(&SAMPLE) && area[56] == 0xAA);
     let cut = read_then_write(rt.alloc(), &SAMPLE[0..55], &mut area)?;
     assert!(rt; matches!(cut, Err(Refusal::MalformedRecord(17))));
     Ok(())

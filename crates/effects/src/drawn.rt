@@ -1,19 +1,24 @@
 // What a record drew, in words.
-ghost use Rattle.std.specs.Prelude.{◌≡◌, ◌≤◌, IfOk, string_bytes, slice_index};
+ghost use Rattle.std.specs.Prelude.{◌≡◌, ◌≤◌, IfOk, Some, string_bytes, slice_index};
 ghost use Rattle.reader.specs.Quadlets.{big2};
 ghost use Rattle.journal.specs.Entries.{entry};
-ghost use Rattle.effects.specs.Drawn.{one_or_more, verb_text, own_text, login_granted_text, told_count, query_granted_text, handle_granted_text, function_granted_text, granted_text, drawn_text};
+ghost use Rattle.effects.specs.Drawn.{own_text, login_granted_text, query_granted_text, handle_granted_text, function_granted_text, granted_text, drawn_text};
 
 use journal::record::Record;
 use reader::refusal::Refusal;
 use reader::request::{Function, Request};
 use std::alloc::{AllocError, Global};
+use std::fmt;
+
+// The login's own node handle, if it was given one.
+#[derive(Clone, Copy)]
+struct OwnHandle(u16);
 
 // A byte of a response; where it stores fewer, 0.
 fn byte(response: &[u8], at: usize) -> u8
     ensures { result ≡ slice_index response.now at }
 {
-    if at < response.len() { response[at] } else { 0 }
+    response.get(at).copied().unwrap_or(0)
 }
 
 fn half(response: &[u8], at: usize) -> u16
@@ -23,57 +28,40 @@ fn half(response: &[u8], at: usize) -> u16
     u16::from_be_bytes([byte(response, at), byte(response, at + 1)])
 }
 
-pub(crate) fn one_or_more(n: usize, one: &'static str, more: &'static str) -> &'static str
-    ensures { result.now ≡ one_or_more n one.now more.now }
-{
-    if n == 1 { one } else { more }
-}
+impl fmt::Display for OwnHandle {
+    ghost output = { λ h. Some (own_text h.0) };
 
-fn verb(update: bool) -> &'static str
-    ensures { result.now ≡ verb_text update }
-{
-    if update { "update of login" } else { "login" }
-}
-
-fn own_words(heap: Global, handle: u16) -> Result<String, AllocError>
-    ensures { IfOk result (λ s. string_bytes s ≡ own_text handle) }
-{
-    if handle == 0 {
-        return Ok(String::new(heap));
+    fn fmt<W: fmt::Write>(&self, f: &mut fmt::Formatter<W>) -> fmt::Result {
+        let handle = self.0;
+        if handle == 0 {
+            return Ok(());
+        }
+        write!(f, ", own handle {handle}")
     }
-    format!(in heap; ", own handle {handle}")
 }
 
 fn login_granted(heap: Global, update: bool, response: &[u8]) -> Result<String, AllocError>
     ensures { IfOk result (λ s. string_bytes s ≡ login_granted_text update response.now) }
 {
-    let verb = verb(update);
-    let login = half(response, 2);
+    let verb = if update { "update of login" } else { "login" };
     let hold = half(response, 14);
-    let own = own_words(heap, half(response, 12))?;
-    format!(in heap; "granted {verb} {login}, hold {hold}{own}")
-}
-
-fn told_count(response: &[u8]) -> usize
-    ensures { result ≡ told_count response.now }
-{
-    response.len().saturating_sub(4) / 12
+    let own = OwnHandle(half(response, 12));
+    format!(in heap; "granted {verb} {}, hold {hold}{own}", half(response, 2))
 }
 
 fn query_granted(heap: Global, response: &[u8]) -> Result<String, AllocError>
     ensures { IfOk result (λ s. string_bytes s ≡ query_granted_text response.now) }
 {
-    let told = told_count(response);
-    let holders = one_or_more(told, " holder told", " holders told");
-    format!(in heap; "granted, {told}{holders}")
+    let told = response.len().saturating_sub(4) / 12;
+    let holders = if told == 1 { "holder" } else { "holders" };
+    format!(in heap; "granted, {told} {holders} told")
 }
 
 fn handle_granted(heap: Global, allocate: bool, response: &[u8]) -> Result<String, AllocError>
     ensures { IfOk result (λ s. string_bytes s ≡ handle_granted_text allocate response.now) }
 {
     if allocate {
-        let handle = half(response, 0);
-        return format!(in heap; "granted node handle {handle}");
+        return format!(in heap; "granted node handle {}", half(response, 0));
     }
     String::from_str(heap, "granted release")
 }

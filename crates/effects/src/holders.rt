@@ -3,10 +3,8 @@ ghost use Rattle.std.specs.Prelude.{◌≡◌, ◌<◌, true, IfOk, Some, string
 ghost use Rattle.tables.specs.Books.{book_of};
 ghost use Rattle.logins.specs.Logins.{reserved};
 ghost use Rattle.logins.specs.Rows.{logins_size, handles_size};
-ghost use Rattle.words.specs.Requests.{also};
-ghost use Rattle.effects.specs.Holders.{state_text, claim_text, holder_line, handle_line, no_holder, holder_lines, handle_lines, tables_text};
+ghost use Rattle.effects.specs.Holders.{state_text, claim_text, holder_line, handle_line, holder_lines, handle_lines, tables_text};
 
-use crate::drawn::one_or_more;
 use logins::rows::{Handle, LoginRow};
 use std::alloc::{AllocError, Global};
 use std::fmt;
@@ -20,13 +18,6 @@ struct Held(LoginRow);
 #[derive(Clone, Copy)]
 struct Claim(LoginRow);
 
-// The word if it applies.
-fn also(applies: bool, word: &'static str) -> &'static str
-    ensures { result.now ≡ also applies word.now }
-{
-    if applies { word } else { "" }
-}
-
 fn is_reserved(row: LoginRow) -> bool
     ensures { result ≡ reserved row }
 {
@@ -36,25 +27,25 @@ fn is_reserved(row: LoginRow) -> bool
 impl fmt::Display for Held {
     ghost output = { λ h. Some (state_text h.0) };
 
+    #[tactic(auto, unfolding(crate::specs::Holders::state_text))]
     fn fmt<W: fmt::Write>(&self, f: &mut fmt::Formatter<W>) -> fmt::Result {
         if is_reserved(self.0) {
             let ticks = self.0.ticks_left;
-            let left = one_or_more(usize::from(ticks), " tick left", " ticks left");
-            return write!(f, "reserved with {ticks}{left}");
+            let unit = if ticks == 1 { "tick" } else { "ticks" };
+            return write!(f, "reserved with {ticks} {unit} left");
         }
-        let node = self.0.owner_id;
-        write!(f, "active at {node}")
+        write!(f, "active at {}", self.0.owner_id)
     }
 }
 
 impl fmt::Display for Claim {
     ghost output = { λ c. Some (claim_text c.0) };
 
+    #[tactic(auto, unfolding(crate::specs::Holders::claim_text))]
     fn fmt<W: fmt::Write>(&self, f: &mut fmt::Formatter<W>) -> fmt::Result {
-        let exclusive = also(self.0.exclusive, ", exclusive");
-        let aware = also(self.0.aware, ", aware");
-        let hold = self.0.hold;
-        write!(f, "{exclusive}{aware}, hold {hold}")
+        let exclusive = if self.0.exclusive { ", exclusive" } else { "" };
+        let aware = if self.0.aware { ", aware" } else { "" };
+        write!(f, "{exclusive}{aware}, hold {}", self.0.hold)
     }
 }
 
@@ -62,30 +53,28 @@ fn holder_row(heap: Global, slot: usize, row: LoginRow) -> Result<String, AllocE
     requires { slot < logins_size }
     ensures { IfOk result (λ s. string_bytes s ≡ holder_line true slot row) }
 {
-    let login = slot + 1;
-    let unit = row.unit;
-    let held = Held(row);
-    let owner = row.owner_eui_64;
-    let claim = Claim(row);
-    format!(in heap; "    login {login}: unit {unit}, {held}, owner {owner}{claim}\n")
+    format!(in heap;
+        "    login {}: unit {}, {}, owner {}{}\n",
+        slot + 1,
+        row.unit,
+        Held(row),
+        row.owner_eui_64,
+        Claim(row)
+    )
 }
 
 fn handle_row(heap: Global, place: usize, handle: Handle) -> Result<String, AllocError>
     requires { place < handles_size }
     ensures { IfOk result (λ s. string_bytes s ≡ handle_line place handle) }
 {
-    let number = place + 1;
-    let login = handle.login;
-    let eui_64 = handle.eui_64;
-    let node = handle.node;
-    let own = also(handle.own, ", own");
-    format!(in heap; "    node handle {number} of login {login}: {eui_64} at {node}{own}\n")
-}
-
-fn no_holder(first: bool) -> &'static str
-    ensures { result.now ≡ no_holder first }
-{
-    if first { "    no holder\n" } else { "" }
+    let own = if handle.own { ", own" } else { "" };
+    format!(in heap;
+        "    node handle {} of login {}: {} at {}{own}\n",
+        place + 1,
+        handle.login,
+        handle.eui_64,
+        handle.node
+    )
 }
 
 fn holder_rows(heap: Global, tables: &Tables) -> Result<String, AllocError>
@@ -101,7 +90,9 @@ fn holder_rows(heap: Global, tables: &Tables) -> Result<String, AllocError>
             first = false;
         }
     }
-    text.push_str(no_holder(first))?;
+    if first {
+        text.push_str("    no holder\n")?;
+    }
     Ok(text)
 }
 

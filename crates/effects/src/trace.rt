@@ -2,12 +2,11 @@
 ghost use Rattle.std.specs.Prelude.{◌≡◌, ◌<◌, IfOk, Some, string_bytes};
 ghost use Rattle.tables.specs.Books.{book_of};
 ghost use Rattle.logins.specs.Rows.{handles_size};
-ghost use Rattle.effects.specs.Trace.{layer_text, drew_text, hex_bytes, stored_text, mark_text, comma, hyphen, owner_text, terms_text, holder_text, node_handle_text, holders_text, handles_text, book_text, trace_text};
+ghost use Rattle.effects.specs.Trace.{layer_text, drew_text, hex_bytes, stored_text, owner_text, terms_text, holder_text, node_handle_text, holders_text, handles_text, book_text, trace_text};
 
 use logins::rows::{Handle, LoginRow};
 use reader::ids::Eui64;
 use reader::refusal::{Layer, Refusal};
-use reader::text::HexByte;
 use std::alloc::{AllocError, Global};
 use std::fmt;
 use tables::tables::{HANDLES, LOGINS, Tables};
@@ -33,35 +32,19 @@ fn layer_word(layer: Layer) -> &'static str
     }
 }
 
-fn mark(set: bool) -> &'static str
-    ensures { result.now ≡ mark_text set }
-{
-    if set { "1" } else { "0" }
-}
-
-fn comma(first: bool) -> &'static str
-    ensures { result.now ≡ comma first }
-{
-    if first { "" } else { "," }
-}
-
-fn hyphen(first: bool) -> &'static str
-    ensures { result.now ≡ hyphen first }
-{
-    if first { "-" } else { "" }
-}
-
 // Number, layer and value.
 fn drew_words(heap: Global, refusal: Option<Refusal>) -> Result<String, AllocError>
     ensures { IfOk result (λ s. string_bytes s ≡ drew_text refusal) }
 {
-    let Some(refusal) = refusal else {
-        return String::from_str(heap, "0 - -");
-    };
-    let number = refusal.number();
-    let layer = layer_word(refusal.layer());
-    let value = refusal.value();
-    format!(in heap; "{number} {layer} {value}")
+    match refusal {
+        None => String::from_str(heap, "0 - -"),
+        Some(refusal) => format!(in heap;
+            "{} {} {}",
+            refusal.number(),
+            layer_word(refusal.layer()),
+            refusal.value()
+        ),
+    }
 }
 
 fn hex_words(heap: Global, bytes: &[u8]) -> Result<String, AllocError>
@@ -69,9 +52,7 @@ fn hex_words(heap: Global, bytes: &[u8]) -> Result<String, AllocError>
 {
     let mut text = String::new(heap);
     for byte in bytes {
-        let byte = HexByte(*byte);
-        let digits = format!(in heap; "{byte}")?;
-        text.push_str(digits.as_str())?;
+        write!(text, "{byte:02X}")?;
     }
     Ok(text)
 }
@@ -88,24 +69,32 @@ fn stored_words(heap: Global, bytes: &[u8]) -> Result<String, AllocError>
 impl fmt::Display for Owner {
     ghost output = { λ o. Some (owner_text o.0) };
 
+    #[tactic(auto, unfolding(crate::specs::Trace::owner_text))]
     fn fmt<W: fmt::Write>(&self, f: &mut fmt::Formatter<W>) -> fmt::Result {
-        let unit = self.0.unit;
-        let id = self.0.owner_id;
-        let eui_64 = self.0.owner_eui_64;
-        let fifo = Eui64(self.0.status_fifo);
-        write!(f, "{unit}:{id}:{eui_64}:{fifo}")
+        write!(
+            f,
+            "{}:{}:{}:{}",
+            self.0.unit,
+            self.0.owner_id,
+            self.0.owner_eui_64,
+            Eui64(self.0.status_fifo)
+        )
     }
 }
 
 impl fmt::Display for Terms {
     ghost output = { λ t. Some (terms_text t.0) };
 
+    #[tactic(auto, using(crate::proofs::Marks::mark_told), unfolding(crate::specs::Trace::terms_text))]
     fn fmt<W: fmt::Write>(&self, f: &mut fmt::Formatter<W>) -> fmt::Result {
-        let exclusive = mark(self.0.exclusive);
-        let aware = mark(self.0.aware);
-        let hold = self.0.hold;
-        let ticks = self.0.ticks_left;
-        write!(f, "{exclusive}:{aware}:{hold}:{ticks}")
+        write!(
+            f,
+            "{}:{}:{}:{}",
+            u8::from(self.0.exclusive),
+            u8::from(self.0.aware),
+            self.0.hold,
+            self.0.ticks_left
+        )
     }
 }
 
@@ -113,13 +102,12 @@ impl fmt::Display for Terms {
 fn holder_words(heap: Global, first: bool, slot: usize, row: LoginRow) -> Result<String, AllocError>
     ensures { IfOk result (λ s. string_bytes s ≡ holder_text first slot row) }
 {
-    let comma = comma(first);
-    let owner = Owner(row);
-    let terms = Terms(row);
-    format!(in heap; "{comma}{slot}:{owner}:{terms}")
+    let comma = if first { "" } else { "," };
+    format!(in heap; "{comma}{slot}:{}:{}", Owner(row), Terms(row))
 }
 
 // A node handle, after a comma unless it is the first.
+#[tactic(auto, using(crate::proofs::Marks::mark_told))]
 fn handle_words(
     heap: Global,
     first: bool,
@@ -129,13 +117,15 @@ fn handle_words(
     requires { place < handles_size }
     ensures { IfOk result (λ s. string_bytes s ≡ node_handle_text first place handle) }
 {
-    let comma = comma(first);
-    let number = place + 1;
-    let login = handle.login;
-    let eui_64 = handle.eui_64;
-    let node = handle.node;
-    let own = mark(handle.own);
-    format!(in heap; "{comma}{number}:{login}:{eui_64}:{node}:{own}")
+    let comma = if first { "" } else { "," };
+    format!(in heap;
+        "{comma}{}:{}:{}:{}:{}",
+        place + 1,
+        handle.login,
+        handle.eui_64,
+        handle.node,
+        u8::from(handle.own)
+    )
 }
 
 fn holders_words(heap: Global, tables: &Tables) -> Result<String, AllocError>
@@ -151,7 +141,9 @@ fn holders_words(heap: Global, tables: &Tables) -> Result<String, AllocError>
             first = false;
         }
     }
-    text.push_str(hyphen(first))?;
+    if first {
+        text.push('-')?;
+    }
     Ok(text)
 }
 
@@ -168,19 +160,24 @@ fn handles_words(heap: Global, tables: &Tables) -> Result<String, AllocError>
             first = false;
         }
     }
-    text.push_str(hyphen(first))?;
+    if first {
+        text.push('-')?;
+    }
     Ok(text)
 }
 
+#[tactic(auto, using(crate::proofs::Marks::mark_told))]
 fn book_words(heap: Global, tables: &Tables) -> Result<String, AllocError>
     ensures { IfOk result (λ s. string_bytes s ≡ book_text (book_of tables.now)) }
 {
-    let ticking = mark(tables.is_ticking());
-    let next_login = tables.next_login();
-    let next_handle = tables.next_handle();
     let holders = holders_words(heap, tables)?;
     let handles = handles_words(heap, tables)?;
-    format!(in heap; "{ticking} {next_login} {next_handle} {holders} {handles}")
+    format!(in heap;
+        "{} {} {} {holders} {handles}",
+        u8::from(tables.is_ticking()),
+        tables.next_login(),
+        tables.next_handle()
+    )
 }
 
 /// All that a record did, and the tables after it.

@@ -8,21 +8,14 @@ use std::io::Read;
 
 fn asks_for_tables(rt: &HostRuntime) -> anyhow::Result<bool> {
     let mut words = env::args(rt)?;
-    match words.nth(1) {
-        Some(word) => Ok(word.as_str() == "tables"),
-        None => Ok(false),
-    }
-}
-
-fn run(rt: &HostRuntime) -> anyhow::Result<()> {
-    let mut bytes = Vec::new(rt.alloc());
-    rt.stdin().read_to_end(&mut bytes)?;
-    let shown = asks_for_tables(rt)?;
-    let text = account(rt.alloc(), bytes.as_slice(), shown)?;
-    print!(rt; "{text}")?;
-    Ok(())
+    Ok(words.nth(1).is_some_and(|word| word.as_str() == "tables"))
 }
 
 fn main(rt: HostRuntime) -> anyhow::Result<()> {
-    run(&rt)
+    let mut bytes = Vec::new(rt.alloc());
+    rt.stdin().read_to_end(&mut bytes)?;
+    let shown = asks_for_tables(&rt)?;
+    let text = account(rt.alloc(), bytes.as_slice(), shown)?;
+    print!(rt; "{text}")?;
+    Ok(())
 }

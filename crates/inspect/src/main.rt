@@ -4,14 +4,10 @@
 use std::io::Read;
 use words::lines::journal_words;
 
-fn run(rt: &HostRuntime) -> anyhow::Result<()> {
+fn main(rt: HostRuntime) -> anyhow::Result<()> {
     let mut bytes = Vec::new(rt.alloc());
     rt.stdin().read_to_end(&mut bytes)?;
     let text = journal_words(rt.alloc(), bytes.as_slice())?;
     print!(rt; "{text}")?;
     Ok(())
-}
-
-fn main(rt: HostRuntime) -> anyhow::Result<()> {
-    run(&rt)
 }

@@ -42,6 +42,11 @@ front_of bs h = first_rest bs 0 h
 pub kind_front : (k : ℕ) (bs : List ℕ) → 1 ≤ length bs → get_or bs 0 0 ≡ k → bs ≡ k ∷ take (length bs - 1) (drop 1 bs)
 kind_front k bs h e = front_of bs h ∙ ap (λ (b : ℕ). b ∷ take (length bs - 1) (drop 1 bs)) e
 
+-- the reader of that kind goes on
+pub kind_at : (k : ℕ) (bs : List ℕ) → 1 ≤ length bs → get_or bs 0 0 ≡ k → entry_at bs ≡ by_kind readers k (take (length bs - 1) (drop 1 bs))
+unfolding entry_at
+kind_at k bs h e = ap entry_at (kind_front k bs h e)
+
 pub entry_none : (bs : List ℕ) → length bs < 1 → entry_at bs ≡ None
 unfolding entry_at
 entry_none bs h = let z : length bs ≡ 0 = omega arith in ap entry_at (nil_from_length bs z)

@@ -3,8 +3,9 @@ use Rattle.std.proofs.Common.{◌≡◌, ℕ, ◌+◌, ◌-◌, ◌<◌, ◌≤�
 use Rattle.std.proofs.lemmas.List.{append_assoc, append-nil, length-append, map-append, nil_from_length, take-append-drop, take_more}
 use Rattle.journal.specs.Entries.{Entry, request, bus_reset, net_update, gap, tick, access_change, bus_note, pair_note, stop_note, entry, entries, entry_code, journal_code, Within, EntryAt, NoEntry}
 use Rattle.journal.specs.Journals.{AllWithin, Whole, Broken, longest_journal}
-use Rattle.journal.specs.Areas.{Wrote}
-use Rattle.journal.proofs.Writes.{wrote_then}
+use Rattle.journal.specs.Areas.{Room, Wrote}
+use Rattle.journal.specs.declared.writing.Cursor.{Cursor}
+use Rattle.journal.proofs.Writes.{room_first, room_then, wrote_then}
 use Rattle.journal.specs.declared.record.Record.{Record}
 use Rattle.reader.specs.declared.refusal.Refusal.TheVariants.{MalformedRecord}
 
@@ -49,24 +50,25 @@ module _ (rs : List Record) (i : ℕ) (d : Record) (h : i < length rs) where
   total_more t n p q = omega (arith, length_more)
 
   -- what is written so far leaves room for the next record, if there is room for all
-  pub room_left : (at room : ℕ) → at ≡ 0 + length (journal_code (entries (take i rs))) → length (journal_code (entries rs)) ≤ room → at + length (entry_code (entry (get_or rs i d))) ≤ room
-  room_left at room p q =
-      let front = entries (take (i + 1) rs) in
-      let back = entries (drop (i + 1) rs) in
-      let split : journal_code (entries rs) ≡ journal_code front ++ journal_code back =
-      ap (λ (z : List Record). journal_code (entries z)) (sym (take-append-drop (i + 1) rs))
-      ∙ ap journal_code (map-append entry (take (i + 1) rs) (drop (i + 1) rs))
-      ∙ journal_append front back in
-      omega (arith, length_more, ap length split, length-append (journal_code front) (journal_code back))
+  module _ (one two : Cursor) (so_far : Wrote one two (journal_code (entries (take i rs)))) (start : one.at ≡ 0) (room : length (journal_code (entries rs)) ≤ length one.area.now) where
+    room_for : Room one (journal_code (entries (take i rs)) ++ entry_code (entry (get_or rs i d)))
+    room_for =
+        let front = entries (take (i + 1) rs) in
+        let back = entries (drop (i + 1) rs) in
+        let split : journal_code front ++ journal_code back ≡ journal_code (entries rs) =
+        sym (journal_append front back)
+        ∙ ap journal_code (sym (map-append entry (take (i + 1) rs) (drop (i + 1) rs)))
+        ∙ ap (λ (z : List Record). journal_code (entries z)) (take-append-drop (i + 1) rs) in
+        subst (Room one) code_more_of (room_first one (journal_code front) (journal_code back) (subst (Room one) (sym split) (record { fits = omega (arith, start, room) })))
 
-  pub wrote_more : (one two three : List ℕ) (at end : ℕ) → length (journal_code (entries rs)) ≤ length one → Wrote one two 0 at (journal_code (entries (take i rs))) → Wrote two three at end (entry_code (entry (get_or rs i d)))
-      → Wrote one three 0 end (journal_code (entries (take (i + 1) rs)))
-  wrote_more one two three at end room a b =
-      let left = room_left at (length one) a.ends room in
-      let p = a.ends in
-      subst (λ (bs : List ℕ). Wrote one three 0 end bs) (sym code_more_of) (
-      wrote_then one two three (journal_code (entries (take i rs))) (entry_code (entry (get_or rs i d))) 0 at end (omega arith) a b
-      )
+    pub room_left : Room two (entry_code (entry (get_or rs i d)))
+    room_left = room_then one (journal_code (entries (take i rs))) (entry_code (entry (get_or rs i d))) room_for two so_far
+
+    pub wrote_more : (three : Cursor) → Wrote two three (entry_code (entry (get_or rs i d))) → Wrote one three (journal_code (entries (take (i + 1) rs)))
+    wrote_more three next =
+        subst (Wrote one three) (sym code_more_of) (
+        wrote_then one (journal_code (entries (take i rs))) (entry_code (entry (get_or rs i d))) room_for two so_far three next
+        )
 
   pub within_more : AllWithin (entries (take i rs)) → Within (entry (get_or rs i d)) → AllWithin (entries (take (i + 1) rs))
   within_more w v = subst AllWithin (sym entries_more) (within_push (entries (take i rs)) (entry (get_or rs i d)) w v)

@@ -1,10 +1,8 @@
 -- One write after another to an area. Assumes nothing.
-use Rattle.std.proofs.Common.{◌≡◌, ℕ, ◌+◌, ◌<◌, ◌≤◌, List, [], ◌∷◌, ◌++◌, length, take, drop, set, sym, ap, ◌∙◌, add-one, arith}
-use Rattle.std.proofs.lemmas.List.{append_assoc, length-append, length-take-le, take_at, drop_at, drop-drop, set_split}
-use Rattle.journal.specs.Areas.{put, Wrote}
-
-pub set_put : (area : List ℕ) (at b : ℕ) → at < length area → set area at b ≡ put area at (b ∷ [])
-set_put area at b h = rw add-one (set_split area at b h)
+use Rattle.std.proofs.Common.{◌≡◌, ℕ, ◌+◌, ◌≤◌, List, ◌++◌, length, take, drop, sym, ap, ◌∙◌, arith}
+use Rattle.std.proofs.lemmas.List.{append_assoc, length-append, length-drop, length-take-le, take_at, drop_at, drop-drop}
+use Rattle.journal.specs.Areas.{put, Room, Wrote}
+use Rattle.journal.specs.declared.writing.Cursor.{Cursor}
 
 -- bytes behind bytes
 put_put : (area xs ys : List ℕ) (at mid : ℕ) → mid ≡ at + length xs → mid ≤ length area → put (put area at xs) mid ys ≡ put area at (xs ++ ys)
@@ -26,12 +24,34 @@ put_put area xs ys at mid e h =
     )
     )
 
-pub wrote_then : (one two three xs ys : List ℕ) (at mid end : ℕ) → at + length xs ≤ length one → Wrote one two at mid xs → Wrote two three mid end ys → Wrote one three at end (xs ++ ys)
-wrote_then one two three xs ys at mid end h a b =
-    let l = length-append xs ys in
-    let p = a.ends in
-    let q = b.ends in
-    record {
-      ends = omega arith;
-      area = b.area ∙ ap (λ (z : List ℕ). put z mid ys) a.area ∙ put_put one xs ys at mid p (omega arith);
-    }
+put_length : (area bs : List ℕ) (at : ℕ) → at + length bs ≤ length area → length (put area at bs) ≡ length area
+put_length area bs at h =
+    omega (arith, length-append (take at area) (bs ++ drop (at + length bs) area), length-append bs (drop (at + length bs) area), length-take-le at area (omega arith), length-drop (at + length bs) area)
+
+-- bytes that are written in two parts
+module _ (c : Cursor) (xs ys : List ℕ) (room : Room c (xs ++ ys)) where
+  pub room_first : Room c xs
+  room_first = record { fits = omega (arith, room.fits, length-append xs ys) }
+
+  module _ (d : Cursor) (first : Wrote c d xs) where
+    pub room_then : Room d ys
+    room_then =
+        let same : length d.area.now ≡ length c.area.now = ap length first.area ∙ put_length c.area.now xs c.at room_first.fits in
+        record { fits = omega (arith, room.fits, first.ends, length-append xs ys) }
+
+    pub wrote_then : (e : Cursor) → Wrote d e ys → Wrote c e (xs ++ ys)
+    wrote_then e then =
+        let fits = room_first.fits in
+        record {
+          ends = omega (arith, first.ends, then.ends, length-append xs ys);
+          area = then.area ∙ ap (λ (z : List ℕ). put z d.at ys) first.area ∙ put_put c.area.now xs ys c.at d.at first.ends (omega (arith, first.ends));
+          same_area = then.same_area ∙ first.same_area;
+        }
+
+pub wrote_three : (c d e f : Cursor) (xs ys zs : List ℕ) → Room c (xs ++ (ys ++ zs)) → Wrote c d xs → Wrote d e ys → Wrote e f zs → Wrote c f (xs ++ (ys ++ zs))
+wrote_three c d e f xs ys zs room first next last =
+    wrote_then c xs (ys ++ zs) room d first f (wrote_then d ys zs (room_then c xs (ys ++ zs) room d first) e next f last)
+
+pub wrote_four : (c d e f g : Cursor) (ws xs ys zs : List ℕ) → Room c (ws ++ (xs ++ (ys ++ zs))) → Wrote c d ws → Wrote d e xs → Wrote e f ys → Wrote f g zs → Wrote c g (ws ++ (xs ++ (ys ++ zs)))
+wrote_four c d e f g ws xs ys zs room first next third last =
+    wrote_then c ws (xs ++ (ys ++ zs)) room d first g (wrote_three d e f g xs ys zs (room_then c ws (xs ++ (ys ++ zs)) room d first) next third last)

@@ -1,5 +1,6 @@
 -- What a journal that was read or written is. Assumes nothing.
-use Rattle.std.specs.Prelude.{◌≡◌, ℕ, ◌<◌, ◌≤◌, Bool, cond, ◌&&◌, ◌⊎◌, List, [], ◌∷◌, ◌++◌, length, drop, Some, None, Ok, Err, Option, Result, nat_le}
+use Rattle.std.specs.Prelude.{◌≡◌, ℕ, ◌+◌, ◌<◌, ◌≤◌, Bool, cond, ◌&&◌, ◌⊎◌, List, [], ◌∷◌, ◌++◌, length, drop, Some, None, Ok, Err, Option, Result, ◌==◌, nat_le}
+use Rattle.reader.specs.Refusals.{number}
 use Rattle.reader.specs.declared.refusal.Refusal.{Refusal}
 use Rattle.reader.specs.declared.refusal.Refusal.TheVariants.{MalformedRecord, JournalTooLong}
 use Rattle.journal.specs.Entries.{Entry, journal_code, Within, NoEntry}
@@ -39,6 +40,15 @@ pub record Long (bs : List ℕ) (es : List Entry) (refusal : Refusal) : Type 0 w
 abbrev pub Reads : List ℕ → List Entry → Option Refusal → Type 0
 Reads bs es None = Whole bs es
 Reads bs es (Some refusal) = Broken bs es refusal ⊎ Long bs es refusal
+
+-- the count of a record that is refused after n others; a journal that is too long has none
+abbrev pub end_count : ℕ → Refusal → ℕ
+end_count n refusal = cond (number refusal == 40) 0 (n + 1)
+
+-- where reading stopped after n records, and why
+abbrev pub ending : ℕ → Option Refusal → Option (ℕ × Refusal)
+ending n None = None
+ending n (Some refusal) = Some (end_count n refusal, refusal)
 
 -- a journal fits an area that holds all its bytes, if it is not too long
 abbrev pub fits : List Entry → List ℕ → Bool

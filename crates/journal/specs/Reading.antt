@@ -1,5 +1,5 @@
 -- How a reader goes through the bytes; proofs/Finding and proofs/Entries tie this to what the bytes are. Assumes nothing.
-use Rattle.std.specs.Prelude.{ℕ, ◌+◌, ◌-◌, ◌*◌, ◌^◌, cond, List, [], ◌∷◌, length, take, drop, Some, None, Option, ◌==◌, nat_le, nat_lt}
+use Rattle.std.specs.Prelude.{ℕ, Bool, ◌+◌, ◌-◌, ◌*◌, ◌^◌, cond, List, [], ◌∷◌, length, take, drop, Some, None, Option, ◌==◌, nat_le, nat_lt}
 use Rattle.std.specs.Borrow.{Bor}
 use Rattle.reader.specs.declared.ids.NodeId.{NodeId}
 use Rattle.reader.specs.declared.ids.Eui64.{Eui64}
@@ -32,6 +32,14 @@ number_seen o = option_map (λ p. (p.0, p.1.now)) o
 abbrev pub after : {T : Type 0} → Option (ℕ × List ℕ) → (ℕ → List ℕ → Option T) → Option T
 after None f = None
 after (Some p) f = f p.0 p.1
+
+-- a mark and the bytes after it: 1 or 0
+abbrev pub mark_at : List ℕ → Option (Bool × List ℕ)
+mark_at bs = after (number_at 1 bs) (λ m rest. Some (m == 1, rest))
+
+-- what the code hands over, without where its bytes lie
+abbrev pub mark_seen : Option (Bool × Bor (List ℕ)) → Option (Bool × List ℕ)
+mark_seen o = option_map (λ p. (p.0, p.1.now)) o
 
 -- an entry and the bytes after it
 abbrev pub met : Entry → List ℕ → Option (Entry × List ℕ)

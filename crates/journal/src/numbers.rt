@@ -1,6 +1,6 @@
 // Numbers in groups of seven bits, lowest first, bit 7 set on all but the last.
 ghost use Rattle.std.specs.Prelude.{◌≡◌, ◌+◌, ◌≤◌, length};
-ghost use Rattle.journal.specs.Reading.{number_seen, number_at};
+ghost use Rattle.journal.specs.Reading.{number_seen, number_at, mark_seen, mark_at};
 
 // A number below 2 ^ bits in its shortest form, and the bytes after it.
 pub(crate) fn read_number(bytes: &[u8], bits: u32) -> Option<(u64, &[u8])>
@@ -33,4 +33,12 @@ pub(crate) fn read_half(bytes: &[u8]) -> Option<(u16, &[u8])>
 {
     let (number, rest) = read_number(bytes, 16)?;
     Some((number as u16, rest))
+}
+
+// A mark: 1 or 0.
+pub(crate) fn read_mark(bytes: &[u8]) -> Option<(bool, &[u8])>
+    ensures { mark_seen result ≡ mark_at bytes.now }
+{
+    let (mark, rest) = read_number(bytes, 1)?;
+    Some((mark == 1, rest))
 }

@@ -1,10 +1,11 @@
 // Reading a journal: one record after another, each in exactly one form.
-ghost use Rattle.std.specs.Prelude.{◌≡◌, IfOk, MatchOption};
+ghost use Rattle.std.specs.Prelude.{◌≡◌, IfOk, MatchOption, length};
 ghost use Rattle.journal.specs.Entries.{entry, entries, EntryAt, NoEntry};
-ghost use Rattle.journal.specs.Journals.{Reads};
+ghost use Rattle.journal.specs.Journals.{Reads, ending};
 ghost use Rattle.journal.specs.Reading.{entry_seen, entry_at, request_at, bus_note_at, pair_note_at, stop_note_at};
 
-use crate::numbers::{read_half, read_number};
+use crate::kinds;
+use crate::numbers::{read_half, read_mark, read_number};
 use crate::record::Record;
 use reader::ids::{Eui64, NodeId};
 use reader::refusal::Refusal;
@@ -18,7 +19,7 @@ fn read_request(bytes: &[u8]) -> Option<(Record<'_>, &[u8])>
 {
     let (source, rest) = read_half(bytes)?;
     let (orb_address, rest) = read_number(rest, 64)?;
-    let (orb, rest) = rest.split_first_chunk::<32>()?;
+    let (orb, rest) = rest.split_first_chunk()?;
     let source = NodeId(source);
     Some((
         Record::Request {
@@ -45,9 +46,8 @@ fn read_pair_note(bytes: &[u8]) -> Option<(Record<'_>, &[u8])>
 {
     let (eui_64, rest) = read_number(bytes, 64)?;
     let (unit, rest) = read_half(rest)?;
-    let (mark, rest) = read_number(rest, 1)?;
+    let (admitted, rest) = read_mark(rest)?;
     let eui_64 = Eui64(eui_64);
-    let admitted = mark == 1;
     Some((
         Record::PairNote {
             eui_64,
@@ -62,9 +62,8 @@ fn read_stop_note(bytes: &[u8]) -> Option<(Record<'_>, &[u8])>
     ensures { entry_seen result ≡ stop_note_at bytes.now }
 {
     let (eui_64, rest) = read_number(bytes, 64)?;
-    let (mark, rest) = read_number(rest, 1)?;
+    let (stopped, rest) = read_mark(rest)?;
     let eui_64 = Eui64(eui_64);
-    let stopped = mark == 1;
     Some((Record::StopNote { eui_64, stopped }, rest))
 }
 
@@ -72,15 +71,15 @@ fn read_kind(bytes: &[u8]) -> Option<(Record<'_>, &[u8])>
     ensures { entry_seen result ≡ entry_at bytes.now }
 {
     match bytes {
-        [1, rest @ ..] => read_request(rest),
-        [2, rest @ ..] => Some((Record::BusReset, rest)),
-        [3, rest @ ..] => Some((Record::NetUpdate, rest)),
-        [4, rest @ ..] => Some((Record::Gap, rest)),
-        [5, rest @ ..] => Some((Record::Tick, rest)),
-        [6, rest @ ..] => Some((Record::AccessChange, rest)),
-        [7, rest @ ..] => read_bus_note(rest),
-        [8, rest @ ..] => read_pair_note(rest),
-        [9, rest @ ..] => read_stop_note(rest),
+        [kinds::REQUEST, rest @ ..] => read_request(rest),
+        [kinds::BUS_RESET, rest @ ..] => Some((Record::BusReset, rest)),
+        [kinds::NET_UPDATE, rest @ ..] => Some((Record::NetUpdate, rest)),
+        [kinds::GAP, rest @ ..] => Some((Record::Gap, rest)),
+        [kinds::TICK, rest @ ..] => Some((Record::Tick, rest)),
+        [kinds::ACCESS_CHANGE, rest @ ..] => Some((Record::AccessChange, rest)),
+        [kinds::BUS_NOTE, rest @ ..] => read_bus_note(rest),
+        [kinds::PAIR_NOTE, rest @ ..] => read_pair_note(rest),
+        [kinds::STOP_NOTE, rest @ ..] => read_stop_note(rest),
         _ => None,
     }
 }
@@ -97,6 +96,21 @@ pub fn read_record(bytes: &[u8]) -> Option<(Record<'_>, &[u8])>
 pub struct Journal<'a> {
     pub records: Vec<Record<'a>>,
     pub refusal: Option<Refusal>,
+}
+
+impl Journal<'_> {
+    /// Why reading stopped before the journal's end, and the count of the record at which it did; a journal that is too
+    /// long has no record, and the count 0.
+    pub fn end(&self) -> Option<(usize, Refusal)>
+        ensures { result ≡ ending (length (entries self.now.records.items)) self.now.refusal }
+    {
+        let refusal = self.refusal?;
+        let count = match refusal {
+            Refusal::JournalTooLong(_) => 0,
+            _ => self.records.len() + 1,
+        };
+        Some((count, refusal))
+    }
 }
 
 /// All records of a journal, up to the first that is malformed.

@@ -3,8 +3,9 @@ ghost use Rattle.std.specs.Prelude.{◌≡◌, ◌+◌, ◌^◌, ◌<◌, ◌≤
 ghost use Rattle.journal.specs.Entries.{entry, entries, entry_code, journal_code, Within};
 ghost use Rattle.journal.specs.Journals.{AllWithin, written_answer, written_area};
 ghost use Rattle.journal.specs.Numbers.{code};
-ghost use Rattle.journal.specs.Areas.{put, Wrote};
+ghost use Rattle.journal.specs.Areas.{put, Room, Wrote};
 
+use crate::kinds;
 use crate::reading::LONGEST_JOURNAL;
 use crate::record::Record;
 use reader::refusal::Refusal;
@@ -17,6 +18,7 @@ fn number_len(n: u64) -> usize
     if n < 128 { 1 } else { 1 + number_len(n / 128) }
 }
 
+#[tactic(auto, using(crate::proofs::Codes::code_half))]
 fn half_len(n: u16) -> usize
     ensures value { result ≡ length (code n) }
     ensures bound { result ≤ 3 }
@@ -52,88 +54,82 @@ pub fn record_len(record: Record<'_>) -> usize
     }
 }
 
-fn write_byte(byte: u8, area: &mut [u8], at: usize) -> usize
-    requires { at + 1 ≤ length area.old }
-    ensures { Wrote area.old area.new at result (byte ∷ []) }
-{
-    area[at] = byte;
-    at + 1
+// A place in a lent area, behind what is written.
+#[derive(Drop)]
+struct Cursor<'a> {
+    area: &'a mut [u8],
+    at: usize,
 }
 
-fn write_number(n: u64, area: &mut [u8], at: usize) -> usize
-    requires { at + length (code n) ≤ length area.old }
-    ensures { Wrote area.old area.new at result (code n) }
-{
-    if n < 128 {
-        return write_byte(n as u8, area, at);
+impl Cursor<'_> {
+    fn byte(&mut self, byte: u8)
+        requires { Room self.old (byte ∷ []) }
+        ensures { Wrote self.old self.new (byte ∷ []) }
+    {
+        self.area[self.at] = byte;
+        self.at += 1;
     }
-    let at = write_byte((n % 128 + 128) as u8, area, at);
-    write_number(n / 128, area, at)
-}
 
-fn write_bytes(bytes: &[u8; 32], area: &mut [u8], at: usize) -> usize
-    requires { at + length bytes.now ≤ length area.old }
-    ensures { Wrote area.old area.new at result bytes.now }
-{
-    area[at..at + 32].copy_from_slice(bytes);
-    at + 32
-}
+    fn number(&mut self, n: u64)
+        requires { Room self.old (code n) }
+        ensures { Wrote self.old self.new (code n) }
+    {
+        if n < 128 {
+            return self.byte(n as u8);
+        }
+        self.byte((n % 128 + 128) as u8);
+        self.number(n / 128);
+    }
 
-// A kind byte and two numbers.
-fn write_two(kind: u8, first: u64, second: u64, area: &mut [u8], at: usize) -> usize
-    requires { at + length (kind ∷ (code first ++ code second)) ≤ length area.old }
-    ensures { Wrote area.old area.new at result (kind ∷ (code first ++ code second)) }
-{
-    let at = write_byte(kind, area, at);
-    let at = write_number(first, area, at);
-    write_number(second, area, at)
-}
+    fn orb(&mut self, orb: &[u8; 32])
+        requires { Room self.old orb.now }
+        ensures { Wrote self.old self.new orb.now }
+    {
+        self.area[self.at..self.at + 32].copy_from_slice(orb);
+        self.at += 32;
+    }
 
-fn write_request(source: u64, orb_address: u64, orb: &[u8; 32], area: &mut [u8], at: usize) -> usize
-    requires { at + length (1 ∷ (code source ++ (code orb_address ++ orb.now))) ≤ length area.old }
-    ensures { Wrote area.old area.new at result (1 ∷ (code source ++ (code orb_address ++ orb.now))) }
-{
-    let at = write_two(1, source, orb_address, area, at);
-    write_bytes(orb, area, at)
-}
-
-fn write_pair_note(eui_64: u64, unit: u64, mark: u64, area: &mut [u8], at: usize) -> usize
-    requires { at + length (8 ∷ (code eui_64 ++ (code unit ++ code mark))) ≤ length area.old }
-    ensures { Wrote area.old area.new at result (8 ∷ (code eui_64 ++ (code unit ++ code mark))) }
-{
-    let at = write_two(8, eui_64, unit, area, at);
-    write_number(mark, area, at)
-}
-
-// A record whose bytes fit behind the place.
-fn write_record(record: Record<'_>, area: &mut [u8], at: usize) -> usize
-    requires { at + length (entry_code (entry «record»)) ≤ length area.old }
-    ensures { Wrote area.old area.new at result (entry_code (entry «record».entry)) }
-{
-    match record {
-        Record::Request {
-            source,
-            orb_address,
-            orb,
-        } => write_request(u64::from(source.0), orb_address, orb, area, at),
-        Record::BusReset => write_byte(2, area, at),
-        Record::NetUpdate => write_byte(3, area, at),
-        Record::Gap => write_byte(4, area, at),
-        Record::Tick => write_byte(5, area, at),
-        Record::AccessChange => write_byte(6, area, at),
-        Record::BusNote { node, eui_64 } => write_two(7, u64::from(node.0), eui_64.0, area, at),
-        Record::PairNote {
-            eui_64,
-            unit,
-            admitted,
-        } => write_pair_note(eui_64.0, u64::from(unit), u64::from(admitted), area, at),
-        Record::StopNote { eui_64, stopped } => write_two(
-            9,
-            eui_64.0,
-            u64::from(stopped),
-            area,
-            at,
-        ),
+    fn record(&mut self, record: Record<'_>)
+        requires { Room self.old (entry_code (entry «record»)) }
+        ensures { Wrote self.old self.new (entry_code (entry «record».entry)) }
+    {
+        match record {
+            Record::Request {
+                source,
+                orb_address,
+                orb,
+            } => {
+                self.byte(kinds::REQUEST);
+                self.number(u64::from(source.0));
+                self.number(orb_address);
+                self.orb(orb);
+            }
+            Record::BusReset => self.byte(kinds::BUS_RESET),
+            Record::NetUpdate => self.byte(kinds::NET_UPDATE),
+            Record::Gap => self.byte(kinds::GAP),
+            Record::Tick => self.byte(kinds::TICK),
+            Record::AccessChange => self.byte(kinds::ACCESS_CHANGE),
+            Record::BusNote { node, eui_64 } => {
+                self.byte(kinds::BUS_NOTE);
+                self.number(u64::from(node.0));
+                self.number(eui_64.0);
+            }
+            Record::PairNote {
+                eui_64,
+                unit,
+                admitted,
+            } => {
+                self.byte(kinds::PAIR_NOTE);
+                self.number(eui_64.0);
+                self.number(u64::from(unit));
+                self.number(u64::from(admitted));
+            }
+            Record::StopNote { eui_64, stopped } => {
+                self.byte(kinds::STOP_NOTE);
+                self.number(eui_64.0);
+                self.number(u64::from(stopped));
+            }
+        }
     }
 }
 
@@ -154,9 +150,9 @@ fn write_records(records: &[Record<'_>], area: &mut [u8])
     requires { length (journal_code (entries records.now)) ≤ length area.old }
     ensures { area.new ≡ put area.old 0 (journal_code (entries records.now)) }
 {
-    let mut at = 0;
+    let mut cursor = Cursor { area, at: 0 };
     for record in records {
-        at = write_record(*record, area, at);
+        cursor.record(*record);
     }
 }
 

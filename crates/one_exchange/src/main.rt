@@ -37,7 +37,7 @@ fn target() -> Target<LocalBus, PairTable> {
     target
 }
 
-fn run(rt: &HostRuntime) -> anyhow::Result<()> {
+fn main(rt: HostRuntime) -> anyhow::Result<()> {
     let mut target = target();
     let mut response = [0; SMALLEST_AREA];
     let mut status = [0; 8];
@@ -53,8 +53,4 @@ fn run(rt: &HostRuntime) -> anyhow::Result<()> {
     println!(rt; "{closed} exchange closed, {stored} bytes stored, link byte {link}")?;
     println!(rt; "status block {status:?}")?;
     Ok(())
-}
-
-fn main(rt: HostRuntime) -> anyhow::Result<()> {
-    run(&rt)
 }

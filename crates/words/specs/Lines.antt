@@ -1,7 +1,6 @@
 -- Journals in words. Assumes nothing.
-use Rattle.std.specs.Prelude.{◌≡◌, ℕ, ◌+◌, Bool, cond, List, [], ◌∷◌, ◌++◌, length, Some, None, Ok, Err, codes, decimal, Option, Result, ◌==◌, nat_lt}
+use Rattle.std.specs.Prelude.{◌≡◌, ℕ, ◌+◌, Bool, cond, List, [], ◌∷◌, ◌++◌, length, Some, None, Ok, Err, codes, decimal, Option, Result, nat_lt}
 use Rattle.reader.specs.Ids.{none_eui}
-use Rattle.reader.specs.Refusals.{number}
 use Rattle.reader.specs.Requests.{request_read}
 use Rattle.reader.specs.Texts.{id_text, eui_text, refusal_text}
 use Rattle.reader.specs.declared.ids.NodeId.{NodeId}
@@ -9,7 +8,7 @@ use Rattle.reader.specs.declared.ids.Eui64.{Eui64}
 use Rattle.reader.specs.declared.refusal.Refusal.{Refusal}
 use Rattle.reader.specs.declared.request.Request.{Request}
 use Rattle.journal.specs.Entries.{Entry, request, bus_reset, net_update, gap, tick, access_change, bus_note, pair_note, stop_note}
-use Rattle.journal.specs.Journals.{Reads}
+use Rattle.journal.specs.Journals.{Reads, ending}
 use Rattle.words.specs.Requests.{request_text}
 
 -- blanks that bring a count to five places
@@ -52,14 +51,14 @@ abbrev pub lines_text : ℕ → List Entry → List ℕ
 lines_text n [] = []
 lines_text n (e ∷ es) = line_text n (entry_text e) ++ lines_text (n + 1) es
 
--- the count of a record that is refused after n others; a journal that is too long has none
-abbrev pub end_number : ℕ → Refusal → ℕ
-end_number n refusal = cond (number refusal == 40) 0 (n + 1)
+-- a line that says at which count reading stopped, and why
+abbrev pub ending_text : Option (ℕ × Refusal) → List ℕ
+ending_text None = []
+ending_text (Some p) = line_text p.0 (codes "refused        " ++ refusal_text p.1)
 
--- a line that says why reading stopped
+-- the same after n records
 abbrev pub end_text : ℕ → Option Refusal → List ℕ
-end_text n None = []
-end_text n (Some refusal) = line_text (end_number n refusal) (codes "refused        " ++ refusal_text refusal)
+end_text n refusal = ending_text (ending n refusal)
 
 -- the words of some bytes: what was read, and why no more was
 pub record Told (bytes text : List ℕ) : Type 0 where

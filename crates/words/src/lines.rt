@@ -1,13 +1,12 @@
 // A journal in words, a line for each record.
-ghost use Rattle.std.specs.Prelude.{◌≡◌, ◌^◌, ◌<◌, IfOk, string_bytes};
+ghost use Rattle.std.specs.Prelude.{◌≡◌, IfOk, length, string_bytes};
 ghost use Rattle.journal.specs.Entries.{entry, entries};
-ghost use Rattle.words.specs.Lines.{pad_text, in_text, asked_text, bus_note_text, entry_text, line_text, lines_text, end_number, end_text, Told};
+ghost use Rattle.words.specs.Lines.{pad_text, asked_text, bus_note_text, entry_text, line_text, lines_text, end_text, Told};
 
 use crate::requests::RequestWords;
-use journal::reading::read_journal;
+use journal::reading::{Journal, read_journal};
 use journal::record::Record;
 use reader::ids::{Eui64, NodeId};
-use reader::refusal::Refusal;
 use reader::request::Request;
 use std::alloc::{AllocError, Global};
 
@@ -24,12 +23,6 @@ fn pad(count: usize) -> &'static str
     }
 }
 
-fn in_or_out(put_in: bool) -> &'static str
-    ensures { result.now ≡ in_text put_in }
-{
-    if put_in { "in" } else { "out" }
-}
-
 fn request_words(
     heap: Global,
     source: NodeId,
@@ -40,10 +33,10 @@ fn request_words(
 {
     let address = Eui64(orb_address);
     match Request::read(orb) {
-        Ok(request) => {
-            let words = RequestWords(request);
-            format!(in heap; "request        from {source}, ORB {address}: {words}")
-        }
+        Ok(request) => format!(in heap;
+            "request        from {source}, ORB {address}: {}",
+            RequestWords(request)
+        ),
         Err(refusal) => format!(in heap; "request        from {source}, ORB {address}: {refusal}"),
     }
 }
@@ -78,11 +71,11 @@ pub fn record_words(heap: Global, record: Record<'_>) -> Result<String, AllocErr
             unit,
             admitted,
         } => {
-            let put = in_or_out(admitted);
+            let put = if admitted { "in" } else { "out" };
             format!(in heap; "pair note      {eui_64}, unit {unit}, {put}")
         }
         Record::StopNote { eui_64, stopped } => {
-            let put = in_or_out(stopped);
+            let put = if stopped { "in" } else { "out" };
             format!(in heap; "stop note      {eui_64}, {put}")
         }
     }
@@ -96,13 +89,21 @@ pub fn line(heap: Global, count: usize, words: &str) -> Result<String, AllocErro
     format!(in heap; "{blanks}{count}  {words}\n")
 }
 
+/// A record's line.
+pub fn record_line(heap: Global, count: usize, record: Record<'_>) -> Result<String, AllocError>
+    ensures { IfOk result (λ s. string_bytes s ≡ line_text count (entry_text (entry «record».entry))) }
+{
+    let words = record_words(heap, record)?;
+    line(heap, count, words.as_str())
+}
+
 /// A journal in words: a line for each record, and one that says why reading stopped, if it did.
 pub fn journal_words(heap: Global, bytes: &[u8]) -> Result<String, AllocError>
     ensures { IfOk result (λ s. Told bytes.now (string_bytes s)) }
 {
     let journal = read_journal(heap, bytes)?;
     let mut text = records_words(heap, journal.records.as_slice())?;
-    let end = end_words(heap, journal.records.len(), journal.refusal)?;
+    let end = end_words(heap, &journal)?;
     text.push_str(end.as_str())?;
     Ok(text)
 }
@@ -112,29 +113,19 @@ fn records_words(heap: Global, records: &[Record<'_>]) -> Result<String, AllocEr
 {
     let mut text = String::new(heap);
     for (k, record) in records.iter().enumerate() {
-        let words = record_words(heap, *record)?;
-        let row = line(heap, k + 1, words.as_str())?;
+        let row = record_line(heap, k + 1, *record)?;
         text.push_str(row.as_str())?;
     }
     Ok(text)
 }
 
-// The count of the record that was refused; a journal that is too long has none.
-fn end_count(read: usize, refusal: Refusal) -> usize
-    requires { read < 2 ^ 63 }
-    ensures { result ≡ end_number read refusal }
+/// A line that says why reading stopped, if it did.
+pub fn end_words(heap: Global, journal: &Journal<'_>) -> Result<String, AllocError>
+    ensures { IfOk result (λ s. string_bytes s ≡ end_text (length (entries journal.now.records.items)) journal.now.refusal) }
 {
-    if refusal.number() == 40 { 0 } else { read + 1 }
-}
-
-fn end_words(heap: Global, read: usize, refusal: Option<Refusal>) -> Result<String, AllocError>
-    requires { read < 2 ^ 63 }
-    ensures { IfOk result (λ s. string_bytes s ≡ end_text read refusal) }
-{
-    let Some(refusal) = refusal else {
+    let Some((count, refusal)) = journal.end() else {
         return Ok(String::new(heap));
     };
-    let count = end_count(read, refusal);
-    let words = format!(in heap; "refused        {refusal}")?;
-    line(heap, count, words.as_str())
+    let why = format!(in heap; "refused        {refusal}")?;
+    line(heap, count, why.as_str())
 }

@@ -3,7 +3,7 @@ use Rattle.std.proofs.lemmas.List.{append-nil}
 use Rattle.std.proofs.lemmas.Bool.{cond-true, cond-false}
 use Rattle.logins.specs.Rows.{free_handle, in_use, handle_at}
 use Rattle.effects.specs.Holders.{handle_line, handle_lines}
-use Rattle.effects.proofs.Growing.{grown, whole}
+use Rattle.words.proofs.Growing.{grown, whole}
 use Rattle.effects.proofs.holders.handle_rows.Goals as goal
 use Rattle.effects.proofs.holders.handle_rows.Goals.{then-is_in_use+in_ok-row+in_ok-push_str, else-is_in_use}
 

@@ -1,10 +1,11 @@
-use Rattle.std.proofs.Common.{◌≡◌, ℕ, ◌<◌, List, ◌++◌, length, string_bytes, sym, ap, ◌∙◌, rules}
+use Rattle.std.proofs.Common.{◌≡◌, ℕ, ◌<◌, ◌≤◌, List, ◌++◌, length, string_bytes, sym, refl, ap, ◌∙◌, rules}
+use lib.Utf8.{encode}
 use Rattle.logins.specs.Rows.{free_handle, in_use, handle_at}
 use Rattle.logins.specs.declared.rows.Handle.{Handle}
 use Rattle.effects.specs.Trace.{hyphen, node_handle_text}
-use Rattle.effects.proofs.Listing.{listed_more, listed_other, listed_all}
+use Rattle.effects.proofs.Listing.{listed_more, listed_other, listed_none, listed_some}
 use Rattle.effects.proofs.trace.handles_words.Goals as goal
-use Rattle.effects.proofs.trace.handles_words.Goals.{then-is_in_use+in_ok-row+in_ok-push_str, else-is_in_use}
+use Rattle.effects.proofs.trace.handles_words.Goals.{then-is_in_use+in_ok-row+in_ok-push_str, else-is_in_use, then-first+in_ok-push, else-first}
 
 pub loop-place-preserved : goal.loop-place-preserved
 loop-place-preserved c =
@@ -30,6 +31,16 @@ loop-place-preserved c =
     ]
 
 pub returns : goal.returns
+unfolding encode
 returns c =
-    listed_all in_use node_handle_text hyphen c.args.tables.now.handles.entries c.loop-place.place c.loop-place.first (string_bytes c.loop-place.text) _ c.loop-place.invariant (string_bytes c.push_str-2.new.self) (search rules)
-    (c.in_ok-push_str-2.ensures.bytes ∙ ap (λ (z : List ℕ). string_bytes c.loop-place.text ++ z) c.hyphen.ensures)
+    let told = c.loop-place in
+    let was = string_bytes told.text in
+    let rows = c.args.tables.now.handles.entries in
+    let past : length rows ≤ told.place = search rules in
+    elim c.if-first.branch [
+      | then-first+in_ok-push w ↦
+          listed_none in_use node_handle_text hyphen rows told.place told.first was _ told.invariant (string_bytes c.if-first.text) past w.if-first.true
+          (ap string_bytes w.text-is ∙ w.in_ok-push.ensures.bytes)
+      | else-first w ↦
+          listed_some in_use node_handle_text hyphen rows told.place told.first was _ told.invariant (string_bytes c.if-first.text) past w.if-first.false refl (ap string_bytes w.text-is)
+    ]

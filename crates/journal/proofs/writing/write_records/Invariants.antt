@@ -5,4 +5,4 @@ use Rattle.journal.specs.Entries.{entries, journal_code}
 use Rattle.journal.proofs.writing.write_records.Given as goal
 
 abbrev pub invariant-loop-record : goal.invariant-loop-record
-invariant-loop-record l = Wrote l.initial.area l.area 0 l.at (journal_code (entries (take l.record-index l.records)))
+invariant-loop-record l = Wrote l.initial.cursor l.cursor (journal_code (entries (take l.record-index l.records)))
