@@ -6,7 +6,7 @@ ghost use Rattle.tables.specs.Events.{given_login, given_handle, moved_handle, s
 
 use crate::book::checked;
 use crate::entries::{Entry, Places};
-use crate::tables::{LOGINS, Tables};
+use crate::tables::{HANDLES, LOGINS, Tables};
 use access::Access;
 use bus::{Bus, local_id};
 use logins::rows::{Handle, HandleSweep, Login, LoginEvent, LoginRow};
@@ -31,8 +31,9 @@ impl Tables {
     pub fn move_handle(&mut self, place: usize, node: NodeId)
         ensures { book_of self.new ≡ moved_handle (book_of self.old) place node }
     {
-        let handle = self.handle(place);
-        self.put_handle(place, Handle { node, ..handle });
+        if place < HANDLES {
+            self.handles.entries[place].node = node;
+        }
     }
 
     /// Frees the handles that are meant.
