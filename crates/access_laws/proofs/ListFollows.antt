@@ -2,6 +2,7 @@
 use Rattle.std.proofs.Common.{◌≡◌, ℕ, Bool, true, false, cond, not, ◌&&◌, is_some, Some, None, sym, refl, ap, ◌∙◌, arith}
 use Rattle.std.proofs.lemmas.Bool.{ne_eqb}
 use Rattle.std.proofs.lemmas.Bool.Decides.{nat_tests}
+use Rattle.std.proofs.lemmas.Grind.{common_steps}
 use Rattle.reader.specs.declared.ids.Eui64.{Eui64}
 use Rattle.reader.specs.Ids.{none_eui}
 use Rattle.notes.specs.Answers.{Answer, granted}
@@ -42,19 +43,11 @@ maker_self n = grind (arith, nat_tests)
 maker_apart : (m k : ℕ) → (m ≡ k → ⊥) → (x : MakerNote) → is_of x m ≡ true → is_of x k ≡ false
 maker_apart m k other x h = grind (arith, nat_tests)
 
--- a mask of no unit is that of no entry
-units_kept : (n : MakerNote) (b : Bool) → puts_in n ≡ b → units_of (cond b (Some n) None) ≡ n.units
-units_kept n true h = refl
-units_kept n false h = grind (arith, nat_tests)
-
 module _ (a b : MakerList) (n : MakerNote) (e : Eui64) (u : ℕ) where
   of_maker : maker_model.Notes a n granted b → n.maker ≡ maker_of e → none_eui e ≡ false → maker_next b e u ≡ in_mask n.units u
   of_maker h same real =
       let there = noted_there is_of n.maker n maker_places (maker_self n) (maker_range n) (maker_tables a) (puts_in n) (sym h.0) in
-      let now_listed = ap (λ k. listed is_of (maker_tables b).noted k) (sym same) ∙ ap (λ t. listed is_of t.noted n.maker) h.1 ∙ there in
-      ap (λ c. not c && in_mask (units_of (listed is_of (maker_tables b).noted (maker_of e))) u) real
-      ∙ ap (λ o. in_mask (units_of o) u) now_listed
-      ∙ ap (λ k. in_mask k u) (units_kept n (puts_in n) refl)
+      grind (arith, common_steps)
 
   of_another : (r : Answer) → maker_model.Notes a n r b → (n.maker ≡ maker_of e → ⊥) → maker_next b e u ≡ maker_next a e u
   of_another r h other =

@@ -1,6 +1,7 @@
 -- A portal follows its notes where the bus below follows its own. Assumes nothing.
 use Rattle.std.proofs.Common.{◌≡◌, Bool, true, false, cond, not, List, Some, None, Err, MatchBool, Option, unwrap_or, sym, refl, ap, ◌∙◌, arith}
 use Rattle.std.proofs.lemmas.Bool.{ne_eqb, eq-eqb}
+use Rattle.std.proofs.lemmas.Grind.{common_steps}
 use Rattle.std.proofs.lemmas.Bool.Decides.{when_true, when_false, nat_tests}
 use Rattle.reader.specs.declared.ids.NodeId.{NodeId}
 use Rattle.reader.specs.declared.ids.Eui64.{Eui64}
@@ -10,7 +11,7 @@ use Rattle.notes.specs.TablesLemmas.{after_there, after_elsewhere, after_refused
 use Rattle.bus.specs.declared.entries.Entry.{Entry}
 use Rattle.bus.specs.declared.portal.Portal.{Portal}
 use Rattle.bus.specs.Meaning.{BusModel, Answer, granted, nobody, somebody}
-use Rattle.bus.specs.GlobalTables.{table_size, is_at, whom, listed, others, push_answer, table_answer, table_after}
+use Rattle.bus.specs.GlobalTables.{table_size, is_at, whom, listed, table_answer, table_after}
 use Rattle.bus.specs.Portals.{portal_tables, or_else, portal_shows, portal_answer, portal_noted, portal_model}
 use Rattle.bus_laws.specs.Following.{Follows, PortalFollows, portal_next}
 use Rattle.bus.specs.PortalsLemmas.{local_not_global}
@@ -93,15 +94,9 @@ module _ {B : Type 0} (m : BusModel B) (next : B → NodeId → Option Eui64) (f
   taken_out : (p q : Portal B) (i : NodeId) (e : Option Eui64) (a : Answer)
       → (portal_model m).Notes p i e a q → global i ≡ true → none_eui (unwrap_or e nobody) ≡ true → (a ≡ granted) × (portal_next next q i ≡ next q.below i)
   taken_out p q i e a n far none =
-      let es = (portal_tables p).noted in
       let own = when_true _ _ far n in
-      let ok : table_answer es i (unwrap_or e nobody) ≡ granted = ap (λ b. cond (not b) (push_answer (others es i)) granted) none in
-      let gone = listed_there es i (unwrap_or e nobody) ok ∙ ap (λ b. cond b None (Some (unwrap_or e nobody))) none in (
-        own.1 ∙ ok,
-        ap (λ b. next_at b (portal_tables q).noted (next q.below i) i) far
-            ∙ ap (λ t. or_else (listed t.noted i) (next q.below i)) own.2
-            ∙ ap (λ o. or_else o (next q.below i)) gone,
-      )
+      let there = listed_there (portal_tables p).noted i (unwrap_or e nobody) in
+      grind (arith, common_steps)
 
   pub portal_follows : PortalFollows m next
   portal_follows = record { notes = follows; taken_out = taken_out }
