@@ -16,6 +16,7 @@ pub(crate) fn joined<F: Fn(usize) -> Result<Option<String>, AllocError>>(
     ensures { IfOk result (λ s. Joined (λ t. string_bytes t) (F.post part) places separator.now none.now (string_bytes s)) }
 {
     let mut text = String::new(heap);
+    // A part may be empty, so the text alone does not tell whether one came before.
     let mut first = true;
     for place in 0..places {
         if let Some(row) = part(place)? {

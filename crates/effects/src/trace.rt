@@ -160,6 +160,7 @@ fn book_words(heap: Global, tables: &Tables) -> Result<String, AllocError>
     )
 }
 
+// What came of the record is given in parts, since the type that holds them is of a crate above.
 /// All that a record did, and the tables after it.
 pub fn trace_line(
     heap: Global,
