@@ -5,6 +5,7 @@ ghost use Rattle.logins.specs.Logins.{reserved};
 ghost use Rattle.logins.specs.Rows.{logins_size, handles_size};
 ghost use Rattle.effects.specs.Holders.{state_text, claim_text, holder_line, handle_line, holder_lines, handle_lines, tables_text};
 
+use crate::lists::joined;
 use logins::rows::{Handle, LoginRow};
 use std::alloc::{AllocError, Global};
 use std::fmt;
@@ -80,34 +81,27 @@ fn handle_row(heap: Global, place: usize, handle: Handle) -> Result<String, Allo
 fn holder_rows(heap: Global, tables: &Tables) -> Result<String, AllocError>
     ensures { IfOk result (λ s. string_bytes s ≡ holder_lines (book_of tables.now).logins) }
 {
-    let mut text = String::new(heap);
-    let mut first = true;
-    for slot in 0..LOGINS {
+    joined(heap, LOGINS, "", "    no holder\n", |slot| {
         let login = tables.login(slot);
         if login.is_holder() {
-            let row = holder_row(heap, slot, LoginRow::from(login))?;
-            text.push_str(row.as_str())?;
-            first = false;
+            Ok(Some(holder_row(heap, slot, LoginRow::from(login))?))
+        } else {
+            Ok(None)
         }
-    }
-    if first {
-        text.push_str("    no holder\n")?;
-    }
-    Ok(text)
+    })
 }
 
 fn handle_rows(heap: Global, tables: &Tables) -> Result<String, AllocError>
     ensures { IfOk result (λ s. string_bytes s ≡ handle_lines 0 (book_of tables.now).handles) }
 {
-    let mut text = String::new(heap);
-    for place in 0..HANDLES {
+    joined(heap, HANDLES, "", "", |place| {
         let handle = tables.handle(place);
         if handle.is_in_use() {
-            let row = handle_row(heap, place, handle)?;
-            text.push_str(row.as_str())?;
+            Ok(Some(handle_row(heap, place, handle)?))
+        } else {
+            Ok(None)
         }
-    }
-    Ok(text)
+    })
 }
 
 /// A line for each holder and for each node handle in use.

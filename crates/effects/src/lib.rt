@@ -4,4 +4,5 @@
 pub mod account;
 pub mod drawn;
 pub mod holders;
+mod lists;
 pub mod trace;

@@ -1,9 +1,10 @@
 // The line of a trace: all that a record did, for programs.
-ghost use Rattle.std.specs.Prelude.{◌≡◌, ◌<◌, IfOk, Some, string_bytes};
+ghost use Rattle.std.specs.Prelude.{◌≡◌, ◌<◌, true, IfOk, Some, string_bytes};
 ghost use Rattle.tables.specs.Books.{book_of};
 ghost use Rattle.logins.specs.Rows.{handles_size};
 ghost use Rattle.effects.specs.Trace.{layer_text, drew_text, hex_bytes, stored_text, owner_text, terms_text, holder_text, node_handle_text, holders_text, handles_text, book_text, trace_text};
 
+use crate::lists::joined;
 use logins::rows::{Handle, LoginRow};
 use reader::ids::Eui64;
 use reader::refusal::{Layer, Refusal};
@@ -98,28 +99,19 @@ impl fmt::Display for Terms {
     }
 }
 
-// A holder, after a comma unless it is the first.
-fn holder_words(heap: Global, first: bool, slot: usize, row: LoginRow) -> Result<String, AllocError>
-    ensures { IfOk result (λ s. string_bytes s ≡ holder_text first slot row) }
+fn holder_words(heap: Global, slot: usize, row: LoginRow) -> Result<String, AllocError>
+    ensures { IfOk result (λ s. string_bytes s ≡ holder_text true slot row) }
 {
-    let comma = if first { "" } else { "," };
-    format!(in heap; "{comma}{slot}:{}:{}", Owner(row), Terms(row))
+    format!(in heap; "{slot}:{}:{}", Owner(row), Terms(row))
 }
 
-// A node handle, after a comma unless it is the first.
 #[tactic(auto, using(crate::proofs::Marks::mark_told))]
-fn handle_words(
-    heap: Global,
-    first: bool,
-    place: usize,
-    handle: Handle,
-) -> Result<String, AllocError>
+fn handle_words(heap: Global, place: usize, handle: Handle) -> Result<String, AllocError>
     requires { place < handles_size }
-    ensures { IfOk result (λ s. string_bytes s ≡ node_handle_text first place handle) }
+    ensures { IfOk result (λ s. string_bytes s ≡ node_handle_text true place handle) }
 {
-    let comma = if first { "" } else { "," };
     format!(in heap;
-        "{comma}{}:{}:{}:{}:{}",
+        "{}:{}:{}:{}:{}",
         place + 1,
         handle.login,
         handle.eui_64,
@@ -131,39 +123,27 @@ fn handle_words(
 fn holders_words(heap: Global, tables: &Tables) -> Result<String, AllocError>
     ensures { IfOk result (λ s. string_bytes s ≡ holders_text (book_of tables.now).logins) }
 {
-    let mut text = String::new(heap);
-    let mut first = true;
-    for slot in 0..LOGINS {
+    joined(heap, LOGINS, ",", "-", |slot| {
         let login = tables.login(slot);
         if login.is_holder() {
-            let row = holder_words(heap, first, slot, LoginRow::from(login))?;
-            text.push_str(row.as_str())?;
-            first = false;
+            Ok(Some(holder_words(heap, slot, LoginRow::from(login))?))
+        } else {
+            Ok(None)
         }
-    }
-    if first {
-        text.push('-')?;
-    }
-    Ok(text)
+    })
 }
 
 fn handles_words(heap: Global, tables: &Tables) -> Result<String, AllocError>
     ensures { IfOk result (λ s. string_bytes s ≡ handles_text (book_of tables.now).handles) }
 {
-    let mut text = String::new(heap);
-    let mut first = true;
-    for place in 0..HANDLES {
+    joined(heap, HANDLES, ",", "-", |place| {
         let handle = tables.handle(place);
         if handle.is_in_use() {
-            let row = handle_words(heap, first, place, handle)?;
-            text.push_str(row.as_str())?;
-            first = false;
+            Ok(Some(handle_words(heap, place, handle)?))
+        } else {
+            Ok(None)
         }
-    }
-    if first {
-        text.push('-')?;
-    }
-    Ok(text)
+    })
 }
 
 #[tactic(auto, using(crate::proofs::Marks::mark_told))]
@@ -180,6 +160,7 @@ fn book_words(heap: Global, tables: &Tables) -> Result<String, AllocError>
     )
 }
 
+// What came of the record is given in parts, since the type that holds them is of a crate above.
 /// All that a record did, and the tables after it.
 pub fn trace_line(
     heap: Global,

@@ -122,6 +122,7 @@ pub fn read_journal(heap: Global, bytes: &[u8]) -> Result<Journal<'_>, AllocErro
         let refusal = Some(Refusal::JournalTooLong(bytes.len()));
         return Ok(Journal { records, refusal });
     }
+    // No iterator over the records: the place of a malformed one is told by the bytes that are left.
     let mut rest = bytes;
     while !rest.is_empty() {
         let Some((record, after)) = read_record(rest) else {
