@@ -1,5 +1,5 @@
 -- Counting and finding by the library's words. Assumes nothing.
-use Rattle.std.proofs.Common.{◌≡◌, ℕ, suc, ◌+◌, Bool, true, false, cond, not, Some, None, ltb, List, [], ◌∷◌, length, filter, refl, ap, ◌∙◌, arith, rules}
+use Rattle.std.proofs.Common.{◌≡◌, ℕ, suc, ◌+◌, Bool, true, false, cond, not, Some, None, ltb, List, [], ◌∷◌, length, filter, refl, ap, arith}
 use Rattle.std.specs.List.{position_or_len}
 use Rattle.std.proofs.lemmas.Bool.Decides.{nat_tests}
 use Rattle.logins.specs.Rows.{SoundRows}

@@ -1,5 +1,5 @@
 -- Writing one row of a list, or all. Assumes nothing.
-use Rattle.std.proofs.Common.{◌≡◌, ℕ, zero, suc, ◌<◌, ◌≤◌, Bool, true, cond, ◌⊎◌, List, [], ◌∷◌, length, get_or, set, refl, ap, ◌∙◌, inl, inr, arith}
+use Rattle.std.proofs.Common.{◌≡◌, ℕ, zero, suc, ◌<◌, Bool, true, cond, ◌⊎◌, List, [], ◌∷◌, length, get_or, set, refl, ap, inl, inr, arith}
 use Rattle.std.proofs.lemmas.Bool.{cases_lt}
 use Rattle.std.proofs.lemmas.List.{get_or_past}
 use Rattle.logins.specs.Logins.{sound, free_row}
@@ -15,10 +15,6 @@ set_either (x ∷ xs) zero v d (suc i) = inr refl
 set_either (x ∷ xs) (suc k) v d zero = inr refl
 set_either (x ∷ xs) (suc k) v d (suc i) =
     elim (set_either xs k v d i) [ inl w ↦ inl (ap suc w.0, w.1) | inr w ↦ inr w ]
-
-pub sound_set : (rows : List LoginRow) (k : ℕ) (row : LoginRow) → SoundRows rows → sound row ≡ true → SoundRows (set rows k row)
-sound_set rows k row all this i =
-    elim (set_either rows k row free_row i) [ inl w ↦ ap sound w.1 ∙ this | inr w ↦ ap sound w ∙ all i ]
 
 -- past the end stands a free row, which is sound too
 pub sound_each : (rows : List LoginRow) (n : ℕ) → length rows ≡ n → ((k : ℕ) → k < n → sound (row_at rows k) ≡ true) → SoundRows rows

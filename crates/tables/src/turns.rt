@@ -45,7 +45,8 @@ impl<E: Entry, const N: usize> Places<E, N> {
         }
     }
 
-    // A free place, sought from the one after the last that was given, going round once.
+    // A free place, sought from the one after the last that was given, going round once. By a loop: of a `find` on both
+    // ranges, one after the other, no proof was found that its closure, which holds the table, makes this test.
     pub(crate) fn first_free(&self) -> Option<usize>
         ensures value { result ≡ next_free (λ k. E.taken (slice_index_or self.now.entries k E.free)) N self.now.next N }
         ensures within { IfSome result (λ k. k < N) }
