@@ -16,7 +16,6 @@ use std::alloc::{AllocError, Global};
 use tables::tables::Tables;
 use words::lines::end_words;
 
-#[tactic(auto, using(crate::proofs::Fronts::take_min))]
 fn account_effect(
     heap: Global,
     shown: bool,

@@ -14,7 +14,6 @@ use replay::driving::{Cabinet, Effect};
 use std::alloc::{AllocError, Global};
 use tables::tables::Tables;
 
-#[tactic(auto, using(crate::proofs::Fronts::take_min))]
 fn trace_effect(
     heap: Global,
     count: usize,

@@ -2,6 +2,7 @@ use Rattle.std.proofs.Common.{◌≡◌, ℕ, ◌+◌, Bool, true, false, List, 
 use Rattle.std.proofs.lemmas.Result.{IfOk-weaker}
 use Rattle.logins.specs.Rows.{free_handle, in_use}
 use Rattle.logins.specs.declared.rows.Handle.{Handle}
+use Rattle.tables.specs.Books.{book_of}
 use Rattle.effects.specs.Holders.{handle_line, handle_lines}
 use Rattle.effects.specs.Lists.{listed}
 use Rattle.effects.proofs.Joining.{listed_so, no_separator}
@@ -30,4 +31,4 @@ same_lines first k (h ∷ hs) = go (in_use h) (λ f. same_lines f (k + 1) hs) wh
 pub returns : goal.returns
 unfolding line
 returns c =
-    IfOk-weaker c.joined.result _ _ (λ s e. listed_so in_use line nothing [] [] free_handle (λ first k h. no_separator first (handle_line k h)) no_end _ _ c.args.tables.now.handles.entries _ (string_bytes s) (search rules) (λ k o h p. search rules) e ∙ same_lines true 0 c.args.tables.now.handles.entries) c.joined.ensures
+    IfOk-weaker c.joined.result _ _ (λ s e. listed_so in_use line nothing [] [] free_handle (λ first k h. no_separator first (handle_line k h)) no_end _ _ (book_of c.args.tables.now).handles _ (string_bytes s) (search rules) (λ k o h p. search rules) e ∙ same_lines true 0 (book_of c.args.tables.now).handles) c.joined.ensures

@@ -4,13 +4,14 @@ use Rattle.logins.specs.Rows.{row_at}
 use Rattle.logins.specs.Tests.{among}
 use Rattle.logins.specs.declared.rows.Holders.TheVariants.{OfUnit}
 use Rattle.rules.specs.Responses.{query_entry}
+use Rattle.tables.specs.Books.{book_of}
 use Rattle.responses.proofs.Telling.{told_all, told_full, told_other, told_more, told_length, told_area, kept_behind}
 use Rattle.responses.proofs.queries.write_entries.Goals as goal
 use Rattle.responses.proofs.queries.write_entries.Goals.{then-is_among+else-left-lt12, else-is_among}
 
 pub returns-then-left-lt12 : goal.returns-then-left-lt12
 returns-then-left-lt12 c =
-    let rows = c.args.tables.now.logins.entries in
+    let rows = (book_of c.args.tables.now).logins in
     let meant : among (OfUnit c.args.unit) (row_at rows c.loop-slot.slot) ≡ _ = sym (ap (among (OfUnit c.args.unit)) c.login-login.ensures) ∙ sym c.is_among.ensures ∙ c.if-is_among.true in
     let told = told_full rows c.args.unit c.loop-slot.left c.loop-slot.slot (take c.loop-slot.at c.loop-slot.area) _ c.loop-slot.invariant.0 (search rules) meant c.if-left-lt12.true in
     let inside : c.loop-slot.at ≤ length c.loop-slot.area = search rules in
@@ -22,7 +23,7 @@ returns-then-left-lt12 c =
 
 pub loop-slot-preserved : goal.loop-slot-preserved
 loop-slot-preserved c =
-    let rows = c.args.tables.now.logins.entries in
+    let rows = (book_of c.args.tables.now).logins in
     let before = take c.loop-slot.at c.loop-slot.area in
     let after = take c.if-is_among.at c.if-is_among.area in
     let inside : c.loop-slot.slot < length rows = search rules in
@@ -49,7 +50,7 @@ loop-slot-preserved c =
 
 pub returns : goal.returns
 returns c =
-    let told = told_all c.args.tables.now.logins.entries c.args.unit c.loop-slot.left c.loop-slot.slot (take c.loop-slot.at c.loop-slot.area) _ c.loop-slot.invariant.0 (search rules) in
+    let told = told_all (book_of c.args.tables.now).logins c.args.unit c.loop-slot.left c.loop-slot.slot (take c.loop-slot.at c.loop-slot.area) _ c.loop-slot.invariant.0 (search rules) in
     let inside : c.loop-slot.at ≤ length c.loop-slot.area = search rules in
     record {
       value = told_length c.loop-slot.area c.args.area.now _ c.loop-slot.at told c.loop-slot.invariant.1 inside;
