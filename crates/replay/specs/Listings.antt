@@ -1,11 +1,11 @@
 -- The listing of a journal that is run through a new cabinet. Assumes nothing.
-use Rattle.std.specs.Prelude.{◌≡◌, ℕ, ◌+◌, cond, List, [], ◌∷◌, ◌++◌, length, Some, None, Ok, Err, codes, decimal, Option, Result, ◌==◌}
+use Rattle.std.specs.Prelude.{◌≡◌, ℕ, ◌+◌, List, [], ◌∷◌, ◌++◌, length, Some, None, Ok, Err, codes, decimal, Option, Result}
 use Rattle.reader.specs.Refusals.{number}
 use Rattle.reader.specs.declared.refusal.Refusal.{Refusal}
 use Rattle.bus.specs.Meaning.{Answer}
 use Rattle.agent.specs.Exchanges.{status_of}
 use Rattle.journal.specs.Entries.{Entry}
-use Rattle.journal.specs.Journals.{Reads}
+use Rattle.journal.specs.Journals.{Reads, ending}
 use Rattle.replay.specs.Cabinets.{Cabinet, CabinetCall, new_cabinet, answer, after}
 use Rattle.replay.specs.Calls.{call_of}
 
@@ -32,14 +32,14 @@ abbrev pub lines_text : ℕ → List ℕ → List ℕ
 lines_text k [] = []
 lines_text k (n ∷ ns) = line_text k n ++ lines_text (k + 1) ns
 
--- the count of a record that is refused after n others; a journal that is too long has none
-abbrev pub end_count : ℕ → Refusal → ℕ
-end_count n refusal = cond (number refusal == 40) 0 (n + 1)
+-- a line that says why reading stopped, with the count of the record at which it did
+abbrev pub ending_text : Option (ℕ × Refusal) → List ℕ
+ending_text None = []
+ending_text (Some p) = line_text p.0 (number p.1)
 
--- a line that says why reading stopped
+-- the same after n records
 abbrev pub end_text : ℕ → Option Refusal → List ℕ
-end_text n None = []
-end_text n (Some refusal) = line_text (end_count n refusal) (number refusal)
+end_text n refusal = ending_text (ending n refusal)
 
 -- the listing of some bytes: a line for each record that was read, and one that says why no more was
 pub record Listed (bytes text : List ℕ) : Type 0 where

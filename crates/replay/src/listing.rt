@@ -1,9 +1,9 @@
 // The listing of a journal: a line for each record, with its count and its number.
-ghost use Rattle.std.specs.Prelude.{◌≡◌, ◌^◌, ◌<◌, IfOk, string_bytes};
+ghost use Rattle.std.specs.Prelude.{◌≡◌, IfOk, string_bytes};
 ghost use Rattle.journal.specs.Entries.{entry, entries};
 ghost use Rattle.replay.specs.Calls.{call_of};
 ghost use Rattle.replay.specs.Drawing.{next_number, answers_left, numbers_from};
-ghost use Rattle.replay.specs.Listings.{line_text, lines_text, end_count, end_text, Listed};
+ghost use Rattle.replay.specs.Listings.{line_text, lines_text, ending_text, Listed};
 
 use crate::cabinet::answers;
 use crate::calls::{call_of, calls_of};
@@ -34,21 +34,12 @@ fn line(heap: Global, count: usize, number: u8) -> Result<String, AllocError>
     format!(in heap; "{count} {number}\n")
 }
 
-// The count of the record that was refused; a journal that is too long has none.
-fn end_count(read: usize, refusal: Refusal) -> usize
-    requires { read < 2 ^ 63 }
-    ensures { result ≡ end_count read refusal }
+fn end_line(heap: Global, end: Option<(usize, Refusal)>) -> Result<String, AllocError>
+    ensures { IfOk result (λ s. string_bytes s ≡ ending_text end) }
 {
-    if refusal.number() == 40 { 0 } else { read + 1 }
-}
-
-fn end_line(heap: Global, read: usize, refusal: Option<Refusal>) -> Result<String, AllocError>
-    requires { read < 2 ^ 63 }
-    ensures { IfOk result (λ s. string_bytes s ≡ end_text read refusal) }
-{
-    match refusal {
+    match end {
         None => Ok(String::new(heap)),
-        Some(refusal) => line(heap, end_count(read, refusal), refusal.number()),
+        Some((count, refusal)) => line(heap, count, refusal.number()),
     }
 }
 
@@ -76,7 +67,7 @@ pub fn listing(heap: Global, bytes: &[u8]) -> Result<String, AllocError>
     let calls = calls_of(heap, records)?;
     let given = answers(heap, calls.as_slice())?;
     let mut text = lines(heap, records, given.as_slice())?;
-    let end = end_line(heap, records.len(), journal.refusal)?;
+    let end = end_line(heap, journal.end())?;
     text.push_str(end.as_str())?;
     Ok(text)
 }

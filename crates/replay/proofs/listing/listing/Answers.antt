@@ -1,13 +1,12 @@
-use Rattle.std.proofs.Common.{◌≡◌, ℕ, List, ◌++◌, length, vec_items, string_bytes, sym, refl, ap, ◌∙◌}
-use Rattle.std.proofs.lemmas.List.{length-map}
+use Rattle.std.proofs.Common.{◌≡◌, ℕ, List, ◌++◌, length, vec_items, string_bytes, refl, ap, ◌∙◌}
 use Rattle.std.proofs.lemmas.Slice.{pushed}
 use Rattle.bus.specs.Meaning.{Answer}
-use Rattle.journal.specs.Entries.{entry, entries}
+use Rattle.journal.specs.Entries.{entries}
 use Rattle.journal.specs.declared.record.Record.{Record}
 use Rattle.replay.specs.Cabinets.{new_cabinet, answers}
 use Rattle.replay.specs.Calls.{calls_of}
 use Rattle.replay.specs.Drawing.{numbers_from}
-use Rattle.replay.specs.Listings.{numbers, lines_text, end_text}
+use Rattle.replay.specs.Listings.{numbers, lines_text, end_text, ending_text}
 use Rattle.replay.proofs.Drawing.{numbers_drawn}
 use Rattle.replay.proofs.listing.listing.Goals as goal
 
@@ -25,9 +24,8 @@ returns c =
     ∙ ap (λ (z : List Answer). numbers_from z (entries rs)) given ∙ numbers_drawn new_cabinet (entries rs) in
     let told : string_bytes c.in_ok-text.text ≡ lines_text 1 (numbers new_cabinet (entries rs)) =
     c.in_ok-text.ensures ∙ ap (lines_text 1) drawn in
-    let count : length c.as_slice-records.result.now ≡ length (entries rs) = ap length slice ∙ sym (length-map rs entry) in
     let ended : c.as_str.result.now ≡ end_text (length (entries rs)) why =
-    c.as_str.ensures.value ∙ c.in_ok-end.ensures ∙ ap (λ (n : ℕ). end_text n why) count in
+    c.as_str.ensures.value ∙ c.in_ok-end.ensures ∙ ap ending_text c.end.ensures in
     let grown = pushed c.as_str.result.now refl c.in_ok-push_str.was c.push_str.ensures.bytes in
     record {
       read = entries rs;
