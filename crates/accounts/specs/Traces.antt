@@ -18,6 +18,10 @@ use Rattle.effects.specs.Trace.{trace_text}
 abbrev pub after_entry : Cabinet → Entry → Cabinet
 after_entry c e = after_record c (call_of e)
 
+-- what is told of a record that comes to a cabinet: by its count, what it is, what comes of it, and the tables after it
+abbrev pub record_text : (ℕ → Entry → Effect → Book → List ℕ) → ℕ → Cabinet → Entry → List ℕ
+record_text text count c e = text count e (effect c e) (after_entry c e).book
+
 -- the bytes of a status block
 abbrev pub status_bytes : Option (List ℕ) → List ℕ
 status_bytes (Some block) = block
@@ -28,7 +32,7 @@ effect_text count e book = trace_text count (result_err e.answer) (response_byte
 
 -- what a record did to a cabinet, and its tables after it
 abbrev pub record_trace : ℕ → Cabinet → Entry → List ℕ
-record_trace count c e = effect_text count (effect c e) (after_entry c e).book
+record_trace = record_text (λ count e did book. effect_text count did book)
 
 -- why reading stopped, after n records: a malformed record has a count and leaves the tables, too long a journal has neither
 abbrev pub end_trace : ℕ → Option Refusal → Book → List ℕ

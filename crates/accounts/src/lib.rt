@@ -2,4 +2,5 @@
 #![tactic(auto)]
 
 pub mod accounting;
+mod records;
 pub mod tracing;

@@ -6,6 +6,7 @@ ghost use Rattle.replay.specs.Driving.{data_of};
 ghost use Rattle.accounts.specs.Journeys.{after_all, told_all};
 ghost use Rattle.accounts.specs.Traces.{after_entry, effect_text, record_trace, end_trace, Traced};
 
+use crate::records::{Telling, told_records};
 use effects::trace::trace_line;
 use journal::reading::{Journal, read_journal};
 use journal::record::Record;
@@ -14,48 +15,28 @@ use replay::driving::{Cabinet, Effect};
 use std::alloc::{AllocError, Global};
 use tables::tables::Tables;
 
-fn trace_effect(
-    heap: Global,
-    count: usize,
-    effect: Effect,
-    tables: &Tables,
-) -> Result<String, AllocError>
-    ensures { IfOk result (λ s. string_bytes s ≡ effect_text count effect (book_of tables.now)) }
-{
-    let refusal = effect.answer.err();
-    let response = effect.response();
-    match effect.status {
-        Some(block) => trace_line(heap, count, refusal, response, &block, tables),
-        None => trace_line(heap, count, refusal, response, &[], tables),
-    }
-}
+// All that it did, for programs.
+#[derive(Clone, Copy)]
+struct AsTrace;
 
-fn trace_record(
-    heap: Global,
-    count: usize,
-    cabinet: &mut Cabinet,
-    record: Record<'_>,
-) -> Result<String, AllocError>
-    ensures text { IfOk result (λ s. string_bytes s ≡ record_trace count (data_of cabinet.old) (entry «record».entry)) }
-    ensures after { data_of cabinet.new ≡ after_entry (data_of cabinet.old) (entry «record».entry) }
-{
-    let effect = cabinet.perform(record);
-    trace_effect(heap, count, effect, cabinet.tables())
-}
+impl Telling for AsTrace {
+    ghost text = { λ _ count _ did book. effect_text count did book };
 
-fn trace_records(
-    heap: Global,
-    cabinet: &mut Cabinet,
-    records: &[Record<'_>],
-) -> Result<String, AllocError>
-    ensures { IfOk result (λ s. (string_bytes s ≡ told_all after_entry record_trace 1 (data_of cabinet.old) (entries records.now)) × (data_of cabinet.new ≡ after_all after_entry (data_of cabinet.old) (entries records.now))) }
-{
-    let mut text = String::new(heap);
-    for (k, record) in records.iter().enumerate() {
-        let row = trace_record(heap, k + 1, cabinet, *record)?;
-        text.push_str(row.as_str())?;
+    fn tell(
+        &self,
+        heap: Global,
+        count: usize,
+        _record: Record<'_>,
+        effect: Effect,
+        tables: &Tables,
+    ) -> Result<String, AllocError> {
+        let refusal = effect.answer.err();
+        let response = effect.response();
+        match effect.status {
+            Some(block) => trace_line(heap, count, refusal, response, &block, tables),
+            None => trace_line(heap, count, refusal, response, &[], tables),
+        }
     }
-    Ok(text)
 }
 
 // Why reading stopped, if it did.
@@ -76,7 +57,8 @@ pub fn trace_journal(heap: Global, bytes: &[u8]) -> Result<String, AllocError>
 {
     let journal = read_journal(heap, bytes)?;
     let mut cabinet = Cabinet::new();
-    let mut text = trace_records(heap, &mut cabinet, journal.records.as_slice())?;
+    let records = journal.records.as_slice();
+    let mut text = told_records(&AsTrace, heap, &mut cabinet, records)?;
     let end = end_line(heap, &journal, cabinet.tables())?;
     text.push_str(end.as_str())?;
     Ok(text)
