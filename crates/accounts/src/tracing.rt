@@ -32,6 +32,7 @@ impl Telling for AsTrace {
     ) -> Result<String, AllocError> {
         let refusal = effect.answer.err();
         let response = effect.response();
+        // A call in each case: with a slice chosen first, no proof was found for the loan.
         match effect.status {
             Some(block) => trace_line(heap, count, refusal, response, &block, tables),
             None => trace_line(heap, count, refusal, response, &[], tables),
@@ -45,6 +46,7 @@ fn end_line(heap: Global, journal: &Journal<'_>, tables: &Tables) -> Result<Stri
 {
     match journal.end() {
         None => Ok(String::new(heap)),
+        // No `{count}` here: that it is 0 was not proved.
         Some((_, Refusal::JournalTooLong(length))) => format!(in heap; "0 40 - {length}\n"),
         Some((count, refusal)) => trace_line(heap, count, Some(refusal), &[], &[], tables),
     }
