@@ -60,6 +60,11 @@ exchange source address = record { closed = 0; source = source; orb_address = ad
 abbrev pub signalled : NodeId → ℕ → Result Signalled Refusal
 signalled source address = cond (orb_fits address) (Ok (exchange source address)) (Err (OrbAddress address))
 
+-- what was refused before it came to the target has no response and no status
+abbrev pub told_effect : Result Effect Refusal → Effect
+told_effect (Ok e) = e
+told_effect (Err refusal) = quiet (Err refusal)
+
 abbrev pub request_effect : Cabinet → NodeId → ℕ → Result Request Refusal → Effect
 request_effect c source address (Ok q) = served address q (outcome (scene c) source q)
 request_effect c source address (Err refusal) = quiet (Err refusal)

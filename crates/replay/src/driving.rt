@@ -4,7 +4,7 @@ ghost use Rattle.tables.specs.Books.{book_of};
 ghost use Rattle.journal.specs.Entries.{request, entry};
 ghost use Rattle.replay.specs.Cabinets.{new_cabinet};
 ghost use Rattle.replay.specs.Calls.{call_of};
-ghost use Rattle.replay.specs.Driving.{data_of, quiet, response_bytes, status_block, signalled, effect};
+ghost use Rattle.replay.specs.Driving.{data_of, quiet, response_bytes, status_block, signalled, told_effect, effect};
 ghost use Rattle.replay.specs.Listings.{drawn, after_record};
 
 use crate::cabinet::{new_bus, new_list};
@@ -78,6 +78,13 @@ fn close(answered: Answered) -> Option<[u8; 8]>
     told.then_some(area)
 }
 
+// What was refused before it came to the target has no response and no status.
+fn told_effect(exchanged: Result<Effect, Refusal>) -> Effect
+    ensures { result ≡ told_effect exchanged }
+{
+    exchanged.unwrap_or_else(|refusal| Effect::quiet(Err(refusal)))
+}
+
 impl Cabinet {
     /// A new one is the node with EUI-64 1, and empty.
     pub fn new() -> Cabinet
@@ -96,25 +103,27 @@ impl Cabinet {
     }
 
     // An exchange with the station at a node, from its signal to its status.
-    fn request(&mut self, source: NodeId, orb_address: u64, orb: &[u8; 32]) -> Effect
-        ensures effect { result ≡ effect (data_of self.old) (request source orb_address orb.now) }
+    fn exchange(
+        &mut self,
+        source: NodeId,
+        orb_address: u64,
+        orb: &[u8; 32],
+    ) -> Result<Effect, Refusal>
+        ensures effect { told_effect result ≡ effect (data_of self.old) (request source orb_address orb.now) }
         ensures after { data_of self.new ≡ after_record (data_of self.old) (call_of (request source orb_address orb.now)) }
     {
-        let signalled = match signal(source, orb_address) {
-            Ok(signalled) => signalled,
-            Err(refusal) => return Effect::quiet(Err(refusal)),
-        };
+        let signalled = signal(source, orb_address)?;
         let mut area = [0; SMALLEST_AREA];
         let mut link = 0;
         let (answered, answer) = signalled
             .answer(&mut self.target, orb, &mut area, &mut link)
             .unwrap();
         let status = close(answered);
-        Effect {
+        Ok(Effect {
             answer,
             area,
             status,
-        }
+        })
     }
 
     // What a call is answered, or why there was none.
@@ -137,7 +146,7 @@ impl Cabinet {
             orb,
         } = record
         {
-            return self.request(source, orb_address, orb);
+            return told_effect(self.exchange(source, orb_address, orb));
         }
         Effect::quiet(self.make(call_of(record)))
     }
