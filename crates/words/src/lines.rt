@@ -1,7 +1,7 @@
 // A journal in words, a line for each record.
 ghost use Rattle.std.specs.Prelude.{◌≡◌, IfOk, length, string_bytes};
 ghost use Rattle.journal.specs.Entries.{entry, entries};
-ghost use Rattle.words.specs.Lines.{pad_text, asked_text, bus_note_text, entry_text, line_text, lines_text, end_text, Told};
+ghost use Rattle.words.specs.Lines.{asked_text, bus_note_text, entry_text, line_text, lines_text, end_text, Told};
 
 use crate::requests::RequestWords;
 use journal::reading::{Journal, read_journal};
@@ -9,19 +9,6 @@ use journal::record::Record;
 use reader::ids::{Eui64, NodeId};
 use reader::request::Request;
 use std::alloc::{AllocError, Global};
-
-// Blanks that bring a count to five places.
-fn pad(count: usize) -> &'static str
-    ensures { result.now ≡ pad_text count }
-{
-    match count {
-        0..=9 => "    ",
-        10..=99 => "   ",
-        100..=999 => "  ",
-        1000..=9999 => " ",
-        _ => "",
-    }
-}
 
 fn request_words(
     heap: Global,
@@ -82,11 +69,11 @@ pub fn record_words(heap: Global, record: Record<'_>) -> Result<String, AllocErr
 }
 
 /// A count and some words.
+#[tactic(auto, using(crate::proofs::Padding::right_of_five))]
 pub fn line(heap: Global, count: usize, words: &str) -> Result<String, AllocError>
     ensures { IfOk result (λ s. string_bytes s ≡ line_text count words.now) }
 {
-    let blanks = pad(count);
-    format!(in heap; "{blanks}{count}  {words}\n")
+    format!(in heap; "{count:>5}  {words}\n")
 }
 
 /// A record's line.
