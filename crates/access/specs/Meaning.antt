@@ -1,7 +1,7 @@
 -- What an access list means, what its events make of it, and what every access list owes. Assumes nothing.
 use Rattle.std.specs.Prelude.{◌≡◌, ℕ, Bool}
 use Rattle.reader.specs.declared.ids.Eui64.{Eui64}
-use Rattle.notes.specs.Answers.{Answer}
+use Rattle.bus.specs.Meaning.{Answer}
 
 -- The meaning of an access list: the set of pairs of EUI-64 and unit that it admits. Then what an access
 -- change and a note (with its answer) make of one list: another, after them. N is its type of notes.

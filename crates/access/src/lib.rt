@@ -11,7 +11,8 @@ pub mod stops;
 use reader::ids::Eui64;
 use reader::refusal::Refusal;
 
-const LAST_UNIT: u16 = 3;
+/// Units are numbered from 0.
+pub const LAST_UNIT: u16 = 3;
 
 /// An access list, known only by its model. The question leaves it as it is; an access change and
 /// a note make of it what the model says.

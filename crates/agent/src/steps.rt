@@ -80,6 +80,7 @@ impl Answered {
             status,
             notify: _,
         } = self;
+        // The area was found long enough above.
         if told {
             let _ = write_status(area, status, orb_address);
         }

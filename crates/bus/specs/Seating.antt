@@ -1,5 +1,5 @@
 -- Places that are apart stay so, and show each EUI-64 at one local ID at most. Assumes nothing.
-use Rattle.std.specs.Prelude.{◌≡◌, ℕ, zero, suc, ◌+◌, ◌-◌, ◌<◌, ◌≤◌, Bool, true, false, cond, ◌⊎◌, List, [], ◌∷◌, length, replicate, Some, None, Err, Option, ◌==◌, nat_le, nat_lt, slice_index_or, slice_set, refl}
+use Rattle.std.specs.Prelude.{◌≡◌, ℕ, zero, suc, ◌+◌, ◌-◌, ◌<◌, ◌≤◌, Bool, true, false, cond, ◌⊎◌, List, [], ◌∷◌, length, replicate, Some, None, Err, Option, ◌==◌, ◌≢◌, nat_le, nat_lt, slice_index_or, slice_set, refl}
 use Rattle.std.proofs.Common.{sym, ◌∙◌, ap, inl, inr, arith}
 use Rattle.std.proofs.lemmas.Bool.{eqb-true, both_ways, and_parts, and_from, leb-true, ltb-true, le-leb, lt-ltb, cases_lt}
 use Rattle.std.proofs.lemmas.List.{get_or_past}
@@ -63,6 +63,12 @@ module _ (euis : List Eui64) where
       let here : local (node_id (0xFFC0 + k)) ≡ true = and_from (nat_le 0xFFC0 (0xFFC0 + k)) (nat_lt (0xFFC0 + k) 0xFFFF) (le-leb 0xFFC0 (0xFFC0 + k) (omega arith)) (lt-ltb (0xFFC0 + k) 0xFFFF (omega arith)) in
       let same : 0xFFC0 + k - 0xFFC0 ≡ k = omega arith in
       (here, simp (here, same, p, n))
+
+  pub finds_nowhere : (e : Eui64) → ((k : ℕ) → k < 63 → place euis k ≢ e) → Finds (seated euis) e None
+  finds_nowhere e h = λ i f. h (i.0 - 0xFFC0) (local_place i f.0).1 (seated_some i e f.1).0
+
+  pub finds_nobody : (e : Eui64) → none_eui e ≡ true → Finds (seated euis) e None
+  finds_nobody e h = λ i f. both_ways (none_eui e) (seated_some i e f.1).1 h
 
   pub seated_apart : Apart euis → (e : Eui64) (i j : NodeId) → (local i ≡ true) × (seated euis i ≡ Some e) → (local j ≡ true) × (seated euis j ≡ Some e) → i ≡ j
   seated_apart w e i j f g =

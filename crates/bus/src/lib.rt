@@ -57,5 +57,5 @@ pub fn local_id<B: Bus>(bus: &B, eui: Eui64) -> Option<NodeId>
 fn somebody(eui: Eui64) -> Option<Eui64>
     ensures { result ≡ somebody eui }
 {
-    if eui.is_none() { None } else { Some(eui) }
+    (!eui.is_none()).then_some(eui)
 }

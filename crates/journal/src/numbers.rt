@@ -27,7 +27,7 @@ pub(crate) fn read_number(bytes: &[u8], bits: u32) -> Option<(u64, &[u8])>
     Some((high * 128 + u64::from(low - 128), after))
 }
 
-// The same of 16 bits.
+// The same of 16 bits, and of the type that has them.
 pub(crate) fn read_half(bytes: &[u8]) -> Option<(u16, &[u8])>
     ensures { number_seen result ≡ number_at 16 bytes.now }
 {

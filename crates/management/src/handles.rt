@@ -11,9 +11,8 @@ ghost use Rattle.management.specs.Serving.{Serves};
 ghost use Rattle.management.specs.Parts.{snapshot_of};
 
 use crate::asking::LoginSlot;
-use crate::login::LAST_UNIT;
 use crate::parts::ManagementAgent;
-use access::Access;
+use access::{Access, LAST_UNIT};
 use bus::Bus;
 use logins::rows::{Handle, HandleSweep, WhichHandle};
 use reader::ids::NodeId;

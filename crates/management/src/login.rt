@@ -1,5 +1,5 @@
 // LOGIN, RECONNECT and LOGOUT.
-ghost use Rattle.std.specs.Prelude.{◌≡◌, ◌<◌, ◌≤◌, [], ◌++◌, length, drop, Some, None, MatchResult};
+ghost use Rattle.std.specs.Prelude.{◌≡◌, ◌+◌, ◌<◌, ◌≤◌, [], ◌++◌, length, drop, Some, None, MatchResult};
 ghost use Rattle.reader.specs.declared.refusal.Refusal.TheVariants.{ResourcesUnavailable, LoginIdNotRecognized};
 ghost use Rattle.logins.specs.Logins.{row_of};
 ghost use Rattle.logins.specs.Rows.{handles_size};
@@ -15,7 +15,7 @@ ghost use Rattle.management.specs.Parts.{snapshot_of};
 
 use crate::asking::{Initiator, LoginSlot};
 use crate::parts::ManagementAgent;
-use access::Access;
+use access::{Access, LAST_UNIT};
 use bus::Bus;
 use logins::rows::{Handle, Holders, Login, LoginEvent, LoginState, WhichHandle};
 use reader::ids::{Eui64, NodeId};
@@ -23,8 +23,6 @@ use reader::refusal::Refusal;
 use reader::request::Request;
 use responses::told::LoginTold;
 use responses::writing::{SMALLEST_AREA, write_login};
-
-pub(crate) const LAST_UNIT: u16 = 3;
 
 // From another bus without awareness, or no room for the response.
 pub(crate) fn is_rejected(source: NodeId, request: &Request) -> bool
@@ -45,6 +43,15 @@ pub(crate) fn own_handle(id: u16, eui: Eui64, node: NodeId) -> Handle
         node,
         own: true,
     }
+}
+
+// The slot of a login ID, in the table or past its end; ID 0 has none.
+fn slot_of(id: u16) -> Result<usize, Refusal>
+    ensures { MatchResult result (λ k. id ≡ k + 1) (λ e. (id ≡ 0) × (e ≡ LoginIdNotRecognized)) }
+{
+    usize::from(id)
+        .checked_sub(1)
+        .ok_or(Refusal::LoginIdNotRecognized)
 }
 
 // The login that is granted.
@@ -80,9 +87,7 @@ impl<B: Bus, A: Access> ManagementAgent<B, A> {
     pub(crate) fn own_login(&self, source: NodeId, id: u16) -> Result<LoginSlot, Refusal>
         ensures { MatchResult result (λ s. own_login (snapshot_of self.now).book source id ≡ Some s.slot) (λ e. (own_login (snapshot_of self.now).book source id ≡ None) × (e ≡ LoginIdNotRecognized)) }
     {
-        let slot = usize::from(id)
-            .checked_sub(1)
-            .ok_or(Refusal::LoginIdNotRecognized)?;
+        let slot = slot_of(id)?;
         let login = self.tables.login(slot);
         match login.state() {
             LoginState::Active if login.owner_id == source => Ok(LoginSlot { slot }),
@@ -103,10 +108,10 @@ impl<B: Bus, A: Access> ManagementAgent<B, A> {
     fn free_slot(&self) -> Result<LoginSlot, Refusal>
         ensures { MatchResult result (λ s. free_login (snapshot_of self.now).book ≡ Some s.slot) (λ e. (free_login (snapshot_of self.now).book ≡ None) × (e ≡ ResourcesUnavailable (logins_in_use (snapshot_of self.now).book))) }
     {
-        match self.tables.free_login() {
-            Some(slot) => Ok(LoginSlot { slot }),
-            None => Err(Refusal::ResourcesUnavailable(self.tables.count_holders(Holders::All))),
-        }
+        let slot = self.tables.free_login().ok_or_else(|| Refusal::ResourcesUnavailable(
+            self.tables.count_holders(Holders::All),
+        ))?;
+        Ok(LoginSlot { slot })
     }
 
     // Tells what a login or an update granted, and gives the number of bytes. In a response 0 is no handle.
@@ -192,9 +197,7 @@ impl<B: Bus, A: Access> ManagementAgent<B, A> {
         ensures silent { response (reconnect_outcome (scene B.Bus.model A.Access.model (snapshot_of self.old)) from.node from.eui_64 request.now) ≡ [] }
     {
         let id = request.unit_or_login_id;
-        let slot = usize::from(id)
-            .checked_sub(1)
-            .ok_or(Refusal::LoginIdNotRecognized)?;
+        let slot = slot_of(id)?;
         let login = self.tables.login(slot);
         if !login.is_holder() || login.owner_eui_64 != from.eui_64 {
             return Err(Refusal::LoginIdNotRecognized);

@@ -1,4 +1,5 @@
-// What a request meets. How it is served stands apart, with the definitions that name this type.
+// What a request meets. A request and its response area are passed side by side: a struct of both would hold a loan, which
+// each function would take apart again. How it is served stands apart, with the definitions that name this type.
 use access::Access;
 use bus::Bus;
 use tables::tables::Tables;

@@ -54,8 +54,11 @@ impl<B: Bus, A: Access> ManagementAgent<B, A> {
         let Some(eui_64) = self.bus.who(source) else {
             return Err(Refusal::Unspecified(source));
         };
-        let node = source;
-        self.serve_function(Initiator { node, eui_64 }, request, response)
+        let from = Initiator {
+            node: source,
+            eui_64,
+        };
+        self.serve_function(from, request, response)
     }
 
     fn serve_function(

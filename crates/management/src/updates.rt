@@ -120,7 +120,7 @@ impl<B: Bus, A: Access> ManagementAgent<B, A> {
         Ok(stored)
     }
 
-    // The number of the own handle of a login, 0 where it has none.
+    // The number of the own handle of a login, 0 where it has none, as in a response.
     fn own_handle_number(&self, at: LoginSlot) -> u16
         ensures { result ≡ handle_number (first (meant (at.slot + 1) Own) 0 (snapshot_of self.now).book.handles) }
     {

@@ -9,7 +9,7 @@ pub trait Keyed {
 
     ghost key: { Self → Self.Key };
 
-    /// What it is for.
+    /// The key that it is for.
     fn key(&self) -> Self::Key
         ensures { result ≡ key self.now };
 }

@@ -40,6 +40,7 @@ impl NodeId {
     }
 }
 
+// Its `is_none` is a node ID's over again: a trait for the two would be longer than both.
 impl Eui64 {
     pub const NONE: Eui64 = Eui64(u64::MAX);
 

@@ -93,10 +93,10 @@ impl Request {
     pub fn read(bytes: &[u8]) -> Result<Request, Refusal>
         ensures { result ≡ request_read bytes.now }
     {
-        match bytes.as_array() {
-            Some(orb) => Ok(Request::from(orb)),
-            None => Err(Refusal::RequestLength(bytes.len())),
-        }
+        bytes
+            .as_array()
+            .map(Request::from)
+            .ok_or(Refusal::RequestLength(bytes.len()))
     }
 
     /// For how long a login or an update asks its login to be held after a reset, in ticks.

@@ -39,7 +39,7 @@ fn write_entries(area: &mut [u8], unit: u16, room: u16, tables: &Tables) -> usiz
     ensures within { result ≤ entries_size }
     ensures after { area.new ≡ query_entries unit room 0 (book_of tables.now).logins ++ drop result area.old }
 {
-    // Bytes are counted here, and no logins: the count is what is given back.
+    // What is told so far is the result, and no index: an iterator over the entries would have to be counted beside it.
     let mut at = 0;
     let mut left = room;
     for slot in 0..LOGINS {

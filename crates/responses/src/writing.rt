@@ -9,7 +9,7 @@ use reader::refusal::Refusal;
 /// Every response area has this many bytes at least: the longest response is a query that tells 16 holders.
 pub const SMALLEST_AREA: usize = 196;
 
-// Bytes that fit the smallest area.
+// Bytes that fit the smallest area. The area's size is tested here and not a type: whoever calls from outside has a slice.
 fn write(area: &mut [u8], bytes: &[u8]) -> Result<usize, Refusal>
     requires { length bytes.now ≤ smallest_area }
     ensures value { result ≡ write_answer area.old bytes.now }

@@ -29,6 +29,7 @@ pub(crate) struct Places<E, const N: usize> {
     ghost narrow: { N ≤ 0xFFFF },
 }
 
+// no `Clone` is derived over ghost fields
 impl<E: Copy, const N: usize> Clone for Places<E, N> {
     ghost is_clone = { λ x y. y ≡ x };
 

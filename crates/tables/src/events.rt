@@ -31,6 +31,7 @@ impl Tables {
     pub fn move_handle(&mut self, place: usize, node: NodeId)
         ensures { book_of self.new ≡ moved_handle (book_of self.old) place node }
     {
+        // By its index: after `get_mut` no clause says what a write leaves in the array.
         if place < HANDLES {
             self.handles.entries[place].node = node;
         }

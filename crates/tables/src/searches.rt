@@ -9,6 +9,7 @@ use crate::book::checked;
 use crate::tables::Tables;
 use logins::rows::{Holders, WhichHandle};
 
+// A place is a plain number in all calls, since each takes any: past the last place stands a free entry.
 impl Tables {
     /// How many holders there are of those that are meant.
     pub fn count_holders(&self, holders: Holders) -> u16
