@@ -34,9 +34,8 @@ mod tests {
 
     fn take(eui_64: Eui64, unit: u16) -> PairNote {
         PairNote {
-            eui_64,
-            unit,
             admitted: false,
+            ..put(eui_64, unit)
         }
     }
 
@@ -44,18 +43,16 @@ mod tests {
         MakerNote { maker, units }
     }
 
+    fn noted<N>(eui_64: Eui64, stopped: bool) -> StopNote<N> {
+        StopNote::Stop { eui_64, stopped }
+    }
+
     fn stop<N>(eui_64: Eui64) -> StopNote<N> {
-        StopNote::Stop {
-            eui_64,
-            stopped: true,
-        }
+        noted(eui_64, true)
     }
 
     fn free<N>(eui_64: Eui64) -> StopNote<N> {
-        StopNote::Stop {
-            eui_64,
-            stopped: false,
-        }
+        noted(eui_64, false)
     }
 
     #[test]
