@@ -46,7 +46,7 @@ fn end_line(heap: Global, journal: &Journal<'_>, tables: &Tables) -> Result<Stri
 {
     match journal.end() {
         None => Ok(String::new(heap)),
-        // No `{count}` here: that it is 0 was not proved.
+        // Both numbers stand here as in the definition: that `{count}` is 0, or `refusal.number()` 40, was not proved.
         Some((_, Refusal::JournalTooLong(length))) => format!(in heap; "0 40 - {length}\n"),
         Some((count, refusal)) => trace_line(heap, count, Some(refusal), &[], &[], tables),
     }

@@ -1,5 +1,6 @@
 // Logins through resets, late returns, updates and access changes.
 use crate::bench::*;
+use reader::request::Request;
 
 #[test]
 fn third_station_inside_the_hold_is_turned_away(rt: HostRuntime) {
@@ -69,8 +70,10 @@ fn station_at_the_old_node_of_another_can_do_nothing_to_it(rt: HostRuntime) {
 #[test]
 fn one_owner_with_two_units_has_two_holds(rt: HostRuntime) {
     let mut bench = Bench::new();
-    let mut short = login(2);
-    short.reconnect = 1;
+    let short = Request {
+        reconnect: 1,
+        ..login(2)
+    };
     assert_eq!(rt; bench.ask(A, login(1)), 0);
     assert_eq!(rt; bench.ask(A, short), 0);
     bench.target.bus_reset();

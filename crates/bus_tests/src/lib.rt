@@ -131,10 +131,7 @@ mod tests {
     }
 
     fn refusal(base: u64, count: u16) -> Option<Refusal> {
-        match Harness::new(base, count) {
-            Ok(_) => None,
-            Err(refusal) => Some(refusal),
-        }
+        Harness::new(base, count).err()
     }
 
     #[test]

@@ -43,13 +43,8 @@ fn fields_for_c_are_those_of_the_request(rt: HostRuntime) {
 
 #[test]
 fn a_request_of_another_length_is_refused_with_it(rt: HostRuntime) {
-    assert!(rt;
-        matches!(
-            Request::read(&LOGIN[0..31]),
-            Err(Refusal::RequestLength(31))
-        )
-    );
-    assert!(rt; matches!(Request::read(&[]), Err(Refusal::RequestLength(0))));
+    assert!(rt; Request::read(&LOGIN[0..31]) == Err(Refusal::RequestLength(31)));
+    assert!(rt; Request::read(&[]) == Err(Refusal::RequestLength(0)));
 }
 
 #[test]
@@ -58,12 +53,8 @@ fn a_status_block_goes_to_the_front_of_its_area(rt: HostRuntime) {
     assert!(rt; write_status(&mut area, 4, 0x12340).is_ok());
     assert!(rt; area == [1, 4, 0, 0, 0, 1, 0x23, 0x40, 0xAA]);
     let mut short = [0xAA; 7];
-    assert!(rt;
-        matches!(
-            write_status(&mut short, 4, 0x12340),
-            Err(Refusal::StatusArea(7))
-        )
-    );
+    let refused = write_status(&mut short, 4, 0x12340);
+    assert!(rt; refused == Err(Refusal::StatusArea(7)));
     assert!(rt; short == [0xAA; 7]);
 }
 

@@ -23,7 +23,7 @@ fn shown_tables(heap: Global, shown: bool, tables: &Tables) -> Result<String, Al
     }
 }
 
-// What came of the record is given in parts, since the type that holds them is of a crate above.
+// What came of the record is given in parts: a type here would hold the same again as the effect of the crate above.
 /// A record, what it drew, and if they are asked for the tables after it.
 pub fn account_lines(
     heap: Global,

@@ -95,7 +95,7 @@ fn granted_words(heap: Global, record: Record<'_>, response: &[u8]) -> Result<St
     }
 }
 
-// What came of the record is given in parts, since the type that holds them is of a crate above.
+// What came of the record is given in parts: a type here would hold the same again as the effect of the crate above.
 /// What a record drew: what it was granted, by the response bytes stored, or why it was refused.
 pub fn drawn_words(
     heap: Global,

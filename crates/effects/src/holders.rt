@@ -1,36 +1,30 @@
 // The holders and the node handles in words.
 ghost use Rattle.std.specs.Prelude.{◌≡◌, ◌<◌, true, IfOk, Some, string_bytes};
 ghost use Rattle.tables.specs.Books.{book_of};
-ghost use Rattle.logins.specs.Logins.{reserved};
+ghost use Rattle.logins.specs.Logins.{row_of};
 ghost use Rattle.logins.specs.Rows.{logins_size, handles_size};
 ghost use Rattle.effects.specs.Holders.{state_text, claim_text, holder_line, handle_line, holder_lines, handle_lines, tables_text};
 
 use crate::lists::joined;
-use logins::rows::{Handle, LoginRow};
+use logins::rows::{Handle, Login, LoginState};
 use std::alloc::{AllocError, Global};
 use std::fmt;
 use tables::tables::{HANDLES, LOGINS, Tables};
 
 // Where the owner of a login is, or for how long it is kept.
 #[derive(Clone, Copy)]
-struct Held(LoginRow);
+struct Held(Login);
 
 // How a login is held.
 #[derive(Clone, Copy)]
-struct Claim(LoginRow);
-
-fn is_reserved(row: LoginRow) -> bool
-    ensures { result ≡ reserved row }
-{
-    !row.owner_eui_64.is_none() && row.owner_id.is_none()
-}
+struct Claim(Login);
 
 impl fmt::Display for Held {
-    ghost output = { λ h. Some (state_text h.0) };
+    ghost output = { λ h. Some (state_text (row_of h.0)) };
 
     #[tactic(auto, unfolding(crate::specs::Holders::state_text))]
     fn fmt<W: fmt::Write>(&self, f: &mut fmt::Formatter<W>) -> fmt::Result {
-        if is_reserved(self.0) {
+        if self.0.state() == LoginState::Reserved {
             let ticks = self.0.ticks_left;
             let unit = if ticks == 1 { "tick" } else { "ticks" };
             return write!(f, "reserved with {ticks} {unit} left");
@@ -40,7 +34,7 @@ impl fmt::Display for Held {
 }
 
 impl fmt::Display for Claim {
-    ghost output = { λ c. Some (claim_text c.0) };
+    ghost output = { λ c. Some (claim_text (row_of c.0)) };
 
     #[tactic(auto, unfolding(crate::specs::Holders::claim_text))]
     fn fmt<W: fmt::Write>(&self, f: &mut fmt::Formatter<W>) -> fmt::Result {
@@ -50,20 +44,23 @@ impl fmt::Display for Claim {
     }
 }
 
-fn holder_row(heap: Global, slot: usize, row: LoginRow) -> Result<String, AllocError>
+// Told as the first of its list, which `true` means, and the others are told alike; the slot comes from a loop over the
+// table.
+fn holder_row(heap: Global, slot: usize, login: Login) -> Result<String, AllocError>
     requires { slot < logins_size }
-    ensures { IfOk result (λ s. string_bytes s ≡ holder_line true slot row) }
+    ensures { IfOk result (λ s. string_bytes s ≡ holder_line true slot (row_of login)) }
 {
     format!(in heap;
         "    login {}: unit {}, {}, owner {}{}\n",
         slot + 1,
-        row.unit,
-        Held(row),
-        row.owner_eui_64,
-        Claim(row)
+        login.unit,
+        Held(login),
+        login.owner_eui_64,
+        Claim(login)
     )
 }
 
+// The place comes from a loop over the table.
 fn handle_row(heap: Global, place: usize, handle: Handle) -> Result<String, AllocError>
     requires { place < handles_size }
     ensures { IfOk result (λ s. string_bytes s ≡ handle_line place handle) }
@@ -83,11 +80,10 @@ fn holder_rows(heap: Global, tables: &Tables) -> Result<String, AllocError>
 {
     joined(heap, LOGINS, "", "    no holder\n", |slot| {
         let login = tables.login(slot);
-        if login.is_holder() {
-            Ok(Some(holder_row(heap, slot, LoginRow::from(login))?))
-        } else {
-            Ok(None)
-        }
+        login
+            .is_holder()
+            .then(|| holder_row(heap, slot, login))
+            .transpose()
     })
 }
 
@@ -96,6 +92,7 @@ fn handle_rows(heap: Global, tables: &Tables) -> Result<String, AllocError>
 {
     joined(heap, HANDLES, "", "", |place| {
         let handle = tables.handle(place);
+        // No `then` and `transpose` here: that what they give is the handle's line was not proved.
         if handle.is_in_use() {
             Ok(Some(handle_row(heap, place, handle)?))
         } else {

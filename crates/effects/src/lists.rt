@@ -18,6 +18,7 @@ pub(crate) fn joined<F: Fn(usize) -> Result<Option<String>, AllocError>>(
     let mut text = String::new(heap);
     // A part may be empty, so the text alone does not tell whether one came before.
     let mut first = true;
+    // By place: a row tells its number, and the tables give a row by its place.
     for place in 0..places {
         if let Some(row) = part(place)? {
             let before = if first { "" } else { separator };

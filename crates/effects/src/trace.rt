@@ -1,11 +1,12 @@
 // The line of a trace: all that a record did, for programs.
 ghost use Rattle.std.specs.Prelude.{◌≡◌, ◌<◌, true, IfOk, Some, string_bytes};
 ghost use Rattle.tables.specs.Books.{book_of};
+ghost use Rattle.logins.specs.Logins.{row_of};
 ghost use Rattle.logins.specs.Rows.{handles_size};
 ghost use Rattle.effects.specs.Trace.{layer_text, drew_text, hex_bytes, stored_text, owner_text, terms_text, holder_text, node_handle_text, holders_text, handles_text, book_text, trace_text};
 
 use crate::lists::joined;
-use logins::rows::{Handle, LoginRow};
+use logins::rows::{Handle, Login};
 use reader::ids::Eui64;
 use reader::refusal::{Layer, Refusal};
 use std::alloc::{AllocError, Global};
@@ -14,11 +15,11 @@ use tables::tables::{HANDLES, LOGINS, Tables};
 
 // Who holds a login, and from where.
 #[derive(Clone, Copy)]
-struct Owner(LoginRow);
+struct Owner(Login);
 
 // How a login is held.
 #[derive(Clone, Copy)]
-struct Terms(LoginRow);
+struct Terms(Login);
 
 fn layer_word(layer: Layer) -> &'static str
     ensures { result.now ≡ layer_text layer }
@@ -68,7 +69,7 @@ fn stored_words(heap: Global, bytes: &[u8]) -> Result<String, AllocError>
 }
 
 impl fmt::Display for Owner {
-    ghost output = { λ o. Some (owner_text o.0) };
+    ghost output = { λ o. Some (owner_text (row_of o.0)) };
 
     #[tactic(auto, unfolding(crate::specs::Trace::owner_text))]
     fn fmt<W: fmt::Write>(&self, f: &mut fmt::Formatter<W>) -> fmt::Result {
@@ -84,7 +85,7 @@ impl fmt::Display for Owner {
 }
 
 impl fmt::Display for Terms {
-    ghost output = { λ t. Some (terms_text t.0) };
+    ghost output = { λ t. Some (terms_text (row_of t.0)) };
 
     #[tactic(auto, using(crate::proofs::Marks::mark_told), unfolding(crate::specs::Trace::terms_text))]
     fn fmt<W: fmt::Write>(&self, f: &mut fmt::Formatter<W>) -> fmt::Result {
@@ -99,12 +100,14 @@ impl fmt::Display for Terms {
     }
 }
 
-fn holder_words(heap: Global, slot: usize, row: LoginRow) -> Result<String, AllocError>
-    ensures { IfOk result (λ s. string_bytes s ≡ holder_text true slot row) }
+// Told as the first of its list, which `true` means: the comma before each of the others comes from the list.
+fn holder_words(heap: Global, slot: usize, login: Login) -> Result<String, AllocError>
+    ensures { IfOk result (λ s. string_bytes s ≡ holder_text true slot (row_of login)) }
 {
-    format!(in heap; "{slot}:{}:{}", Owner(row), Terms(row))
+    format!(in heap; "{slot}:{}:{}", Owner(login), Terms(login))
 }
 
+// Told as the first of its list too; the place comes from a loop over the table.
 #[tactic(auto, using(crate::proofs::Marks::mark_told))]
 fn handle_words(heap: Global, place: usize, handle: Handle) -> Result<String, AllocError>
     requires { place < handles_size }
@@ -125,11 +128,10 @@ fn holders_words(heap: Global, tables: &Tables) -> Result<String, AllocError>
 {
     joined(heap, LOGINS, ",", "-", |slot| {
         let login = tables.login(slot);
-        if login.is_holder() {
-            Ok(Some(holder_words(heap, slot, LoginRow::from(login))?))
-        } else {
-            Ok(None)
-        }
+        login
+            .is_holder()
+            .then(|| holder_words(heap, slot, login))
+            .transpose()
     })
 }
 
@@ -138,11 +140,10 @@ fn handles_words(heap: Global, tables: &Tables) -> Result<String, AllocError>
 {
     joined(heap, HANDLES, ",", "-", |place| {
         let handle = tables.handle(place);
-        if handle.is_in_use() {
-            Ok(Some(handle_words(heap, place, handle)?))
-        } else {
-            Ok(None)
-        }
+        handle
+            .is_in_use()
+            .then(|| handle_words(heap, place, handle))
+            .transpose()
     })
 }
 
@@ -160,7 +161,7 @@ fn book_words(heap: Global, tables: &Tables) -> Result<String, AllocError>
     )
 }
 
-// What came of the record is given in parts, since the type that holds them is of a crate above.
+// What came of the record is given in parts: a type here would hold the same again as the effect of the crate above.
 /// All that a record did, and the tables after it.
 pub fn trace_line(
     heap: Global,

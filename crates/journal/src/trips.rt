@@ -36,8 +36,8 @@ pub fn read_then_write(
     ensures kept { is_ok result ≡ false → area.new ≡ area.old }
 {
     let journal = read_journal(heap, bytes)?;
-    match journal.refusal {
-        Some(refusal) => Ok(Err(refusal)),
-        None => Ok(write_journal(journal.records.as_slice(), area)),
+    if let Some(refusal) = journal.refusal {
+        return Ok(Err(refusal));
     }
+    Ok(write_journal(journal.records.as_slice(), area))
 }

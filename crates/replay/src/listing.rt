@@ -19,13 +19,13 @@ fn next_number<'a>(record: Record<'_>, left: &'a [Answer]) -> (u8, &'a [Answer])
     ensures number { result.0 ≡ next_number (call_of (entry «record».entry)) left.now }
     ensures rest { result.1.now ≡ answers_left (call_of (entry «record».entry)) left.now }
 {
-    match call_of(record) {
-        Err(refusal) => (refusal.number(), left),
-        Ok(_) => match left {
-            [] => (0, left),
-            [answer, rest @ ..] => (status(*answer), rest),
-        },
+    if let Err(refusal) = call_of(record) {
+        return (refusal.number(), left);
     }
+    let [answer, rest @ ..] = left else {
+        return (0, left);
+    };
+    (status(*answer), rest)
 }
 
 fn line(heap: Global, count: usize, number: u8) -> Result<String, AllocError>
@@ -37,12 +37,13 @@ fn line(heap: Global, count: usize, number: u8) -> Result<String, AllocError>
 fn end_line(heap: Global, end: Option<(usize, Refusal)>) -> Result<String, AllocError>
     ensures { IfOk result (λ s. string_bytes s ≡ ending_text end) }
 {
-    match end {
-        None => Ok(String::new(heap)),
-        Some((count, refusal)) => line(heap, count, refusal.number()),
-    }
+    let Some((count, refusal)) = end else {
+        return Ok(String::new(heap));
+    };
+    line(heap, count, refusal.number())
 }
 
+// A loop of its own: it carries the answers that are left, which no other listing of a journal does.
 fn lines(heap: Global, records: &[Record<'_>], answers: &[Answer]) -> Result<String, AllocError>
     ensures { IfOk result (λ s. string_bytes s ≡ lines_text 1 (numbers_from answers.now (entries records.now))) }
 {

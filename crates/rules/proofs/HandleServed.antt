@@ -1,4 +1,4 @@
--- What is promised of handles holds after every request: a walk through the rules. Assumes that nobody is shown as all ones.
+-- What is promised of handles holds after every request: that it holds after each step of the walk through the rules. Assumes that nobody is shown as all ones.
 use Rattle.std.proofs.Common.{◌≡◌, ℕ, ◌-◌, true, false, eqb, List, length, set, Some, sym, refl, ap, ◌∙◌, subst, arith}
 use Rattle.std.proofs.lemmas.List.{length-set, length-map}
 use Rattle.std.proofs.lemmas.Bool.{both_ways, and_parts, eqb-true}

@@ -1,4 +1,4 @@
--- The hold of a login is the one that was asked when it was granted or last updated: a walk through the rules. Assumes nothing.
+-- The hold of a login is the one that was asked when it was granted or last updated: which step of the walk through the rules gives a hold. Assumes nothing.
 use Rattle.std.proofs.Common.{◌≡◌, ℕ, ◌+◌, ◌-◌, Bool, true, false, cond, not, ◌&&◌, eqb, ltb, List, set, Some, Option, sym, refl, ap, ◌∙◌, subst, inl, inr, arith}
 use Rattle.std.proofs.lemmas.Bool.{both_ways, and_parts, and_left, and_right, and_from, eqb-true, eqb-false, not-true}
 use Rattle.reader.specs.declared.ids.NodeId.{NodeId}

@@ -1,4 +1,4 @@
--- Claims hold after every request: a walk through the rules. Assumes nothing.
+-- Claims hold after every request: that they hold after each step of the walk through the rules. Assumes nothing.
 use Rattle.std.proofs.Common.{◌≡◌, ℕ, ◌-◌, Bool, true, false, not, ◌&&◌, ◌||◌, ltb, set, sym, refl, ap, ◌∙◌, subst}
 use Rattle.std.proofs.lemmas.Bool.{or_parts, ltb-false, not-false}
 use Rattle.reader.specs.declared.ids.NodeId.{NodeId}

@@ -1,4 +1,4 @@
--- No request but a granted reconnect of it touches a reserved login, and none makes one. Assumes that FFFFh shows nobody.
+-- No request but a granted reconnect of it touches a reserved login, and none makes one: what each step of the walk through the rules does to a login. Assumes that FFFFh shows nobody.
 use Rattle.std.proofs.Common.{◌≡◌, ℕ, ◌+◌, ◌-◌, ◌≤◌, Bool, true, false, not, ◌&&◌, eqb, ltb, leb, List, [], set, Some, None, Option, refl, ap, ◌∙◌, subst, inl, inr, arith}
 use Rattle.std.proofs.lemmas.Bool.{both_ways, and_parts, and_left, and_right, leb-true, eqb-true, eqb-false}
 use Rattle.reader.specs.Ids.{none_id, none_eui}
