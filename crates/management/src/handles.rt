@@ -146,7 +146,7 @@ impl<B: Bus, A: Access> ManagementAgent<B, A> {
     }
 }
 
-// Tells the handle that was given, and gives the number of bytes.
+// Tells the handle that was given, and gives the number of bytes. Beside `tell_login`, since each calls a writer of its own.
 fn tell_handle(number: u16, response: &mut [u8; SMALLEST_AREA]) -> usize
     ensures value { result ≡ length (handle_response number) }
     ensures after { response.new ≡ handle_response number ++ drop result response.old }
