@@ -54,7 +54,7 @@ pub fn record_len(record: Record<'_>) -> usize
     }
 }
 
-// A place in a lent area, behind what is written.
+// A place in a lent area, behind what is written: the area is the caller's and no `Vec`, so the place is counted.
 #[derive(Drop)]
 struct Cursor<'a> {
     area: &'a mut [u8],
