@@ -21,7 +21,8 @@ pub struct LoginRow {
     pub ticks_left: u16,
 }
 
-/// A login that was checked, with a row's fields over again: a record is made from a plain row by a check. No owner ID without an owner EUI-64, and ticks left only while it is reserved.
+/// A login that was checked, with a row's fields over again: a record is made from a plain row by a check. No owner ID
+/// stands without an owner EUI-64, and ticks are left only while it is reserved.
 #[derive(Clone, Copy, PartialEq, Eq)]
 pub struct Login {
     pub unit: u16,
@@ -52,7 +53,8 @@ pub enum LoginState {
     Active,
 }
 
-/// What happens to a login: a value, since one match goes by it and by the login's state together. A reset brings the local ID that now shows its owner, a reconnect the source ID.
+/// What happens to a login: a value, since one match goes by it and by the login's state together. A reset brings the local
+/// ID that now shows its owner, a reconnect the source ID.
 #[derive(Clone, Copy, PartialEq, Eq)]
 pub enum LoginEvent {
     Reset(Option<NodeId>),
