@@ -41,6 +41,11 @@ impl Keyed for Pair {
     fn key(&self) -> Pair {
         *self
     }
+
+    // Field by field where they lie: most entries differ in the first.
+    fn is_for(&self, wanted: &Pair) -> bool {
+        self.eui == wanted.eui && self.unit == wanted.unit
+    }
 }
 
 impl Pair {

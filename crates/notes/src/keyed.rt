@@ -12,6 +12,13 @@ pub trait Keyed {
     /// The key that it is for.
     fn key(&self) -> Self::Key
         ensures { result ≡ key self.now };
+
+    /// Whether it is for a key. Where a key has more than one field, an entry may compare them where they lie.
+    fn is_for(&self, wanted: &Self::Key) -> bool
+        ensures { result ≡ Self.Key.eq (key self.now) wanted.now }
+    {
+        self.key() == *wanted
+    }
 }
 
 impl Keyed for Eui64 {

@@ -27,7 +27,7 @@ impl<E: Keyed + Copy, const N: usize> Table<E, N> {
     pub fn find(&self, key: E::Key) -> Option<E>
         ensures { result ≡ listed (by_key E.Keyed.key E.Key.eq) (held self.now) key }
     {
-        self.in_use().iter().copied().find(|e| e.key() == key)
+        self.in_use().iter().find(|e| e.is_for(&key)).copied()
     }
 
     /// The entries for other keys.
@@ -39,7 +39,7 @@ impl<E: Keyed + Copy, const N: usize> Table<E, N> {
             count: 0,
         };
         for e in self.in_use() {
-            if e.key() != key {
+            if !e.is_for(&key) {
                 rest.push(*e);
             }
         }

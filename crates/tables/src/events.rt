@@ -127,17 +127,13 @@ impl Tables {
 }
 
 // A handle at FFC0h to FFFFh goes where the local bus now shows its EUI-64.
-fn found_again<B: Bus>(bus: &B, handle: Handle) -> Handle
+fn found_again<B: Bus>(bus: &B, mut handle: Handle) -> Handle
     ensures { result ≡ reset_handle (B.Bus.model.shows bus.now) handle }
 {
     if handle.is_in_use() && handle.node.0 >= 0xFFC0 {
-        Handle {
-            node: local_id(bus, handle.eui_64).unwrap_or(NodeId::NONE),
-            ..handle
-        }
-    } else {
-        handle
+        handle.node = local_id(bus, handle.eui_64).unwrap_or(NodeId::NONE);
     }
+    handle
 }
 
 fn after_reset<B: Bus>(bus: &B, login: Login) -> Login
